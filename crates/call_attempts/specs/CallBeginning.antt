@@ -5,11 +5,10 @@ use Rattle.sock_io.specs.LinkHalves.{OutState}
 use Rattle.sock_words.specs.declared.plain.Plan.{Plan}
 use Rattle.sock_words.specs.declared.socket_id.SocketId.{SocketId}
 use Rattle.sock_table.specs.NamesStoredAndFound.{Found}
-use Rattle.corr_core.specs.IdSlotLaw.{is_tried}
 use Rattle.corr_core.specs.declared.marks.Plan as id_plan
 use Rattle.corr_core.specs.declared.marks.View as id_view
-use Rattle.id_rule.specs.LawfulIdTable.{call_index, notes_of, with_kept}
-use Rattle.corr_id.specs.SeatBehindIdCalls.{Quiet, MadeAs}
+use Rattle.id_rule.specs.LawfulIdTable.{call_index, with_kept}
+use Rattle.corr_id.specs.SeatBehindIdCalls.{Quiet, TakenNow, MadeAs}
 use Rattle.sock_message.specs.Asked.{Asked, name_of}
 use Rattle.call_errors.specs.Starving.{GivenUp}
 use Rattle.call_attempts.specs.declared.calling.Called.{Called}
@@ -17,7 +16,6 @@ use Rattle.call_attempts.specs.declared.calling.Called.TheVariants.{Unopened, No
 use Rattle.call_attempts.specs.ClientAtBothTables.{Both, wanting}
 use Rattle.call_attempts.specs.AttemptLetters.{letter_for}
 use Rattle.call_attempts.specs.Attempting.{AttemptedBy}
-use Rattle.sock_words.specs.Totals.{total}
 
 module _ {O : Type 0} (state : O → OutState) (p : Plan) (q : id_plan.Plan) (asked : Asked) where
   -- the first name's word was read, and nothing else was done
@@ -25,12 +23,12 @@ module _ {O : Type 0} (state : O → OutState) (p : Plan) (q : id_plan.Plan) (as
     pub found : Found p (name_of asked 0) (Some socket) s.socks t.socks
     pub calls : t.calls ≡ s.calls
 
-  -- it had the id of a socket, and each id slot was found taken
+  -- it had the id of a socket, and this call found each id slot taken
   pub record FoundNoSlot (s t : Both) : Type 0 where
     pub socket : SocketId
     pub found : Found p (name_of asked 0) (Some socket) s.socks t.socks
     pub quiet : Quiet s.calls.view t.calls.view
-    pub taken : (i : ℕ) → i < q.slots → 0 < total is_tried (notes_of i t.calls.view.notes)
+    pub taken : (i : ℕ) → i < q.slots → TakenNow i s.calls.view t.calls.view
     pub books : t.calls.books ≡ s.calls.books
 
   -- or an id was made with all that the call needs, and noted for its operation

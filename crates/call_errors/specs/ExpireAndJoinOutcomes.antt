@@ -1,5 +1,5 @@
 -- What becomes of an `expire` and of a `join` of the call that is an operation.
-use Rattle.std.specs.Prelude.{◌≡◌, ◌≢◌, ℕ, ◌≤◌, ◌⊎◌, false, None}
+use Rattle.std.specs.Prelude.{◌≡◌, ◌≢◌, ℕ, ◌<◌, ◌≤◌, ◌⊎◌, false, None}
 use Rattle.sock_words.specs.ErrorCodes.{ERPCTIMEDOUT}
 use Rattle.sock_words.specs.declared.outcome.Outcome.{Outcome}
 use Rattle.sock_words.specs.declared.outcome.Outcome.TheVariants as outcome
@@ -10,7 +10,8 @@ use Rattle.corr_id.specs.id_rule.specs.LawfulIdTable.{call_index, with_kept}
 use Rattle.sock_message.specs.Asked.{Asked}
 use Rattle.corr_id.specs.declared.posts.Posted.{Posted}
 use Rattle.corr_id.specs.declared.posts.Posted.TheVariants.{Locked as HasLock, Queued as IsQueued, Gone, Stale, Crowded}
-use Rattle.corr_id.specs.SeatBehindIdCalls.{Quiet, Found, LacksId}
+use Rattle.corr_id.specs.SeatBehindIdCalls.{Quiet, Found, FoundNow, LacksId}
+use Rattle.corr_id.specs.LocksByAttempt.{IsKnown}
 use Rattle.corr_id.specs.Ruled.{is_place}
 use Rattle.call_errors.specs.declared.asking.Ask.{Ask}
 use Rattle.call_errors.specs.declared.asking.Ask.TheVariants.{Expire, Join}
@@ -52,13 +53,15 @@ ExpiredBy p operation outcome.Late s t = TimedOut p operation outcome.Late s t
 ExpiredBy p operation (outcome.Crowded first second) s t = TimedOut p operation (outcome.Crowded first second) s t
 ExpiredBy p operation _ s t = ⊥
 
--- there is no such slot, or a word was found there without the id
+-- there is no such slot, or a word was found there without the id: by this call, and of a later range where the seat knew of the id that it was made
 pub record SawEnd (p : Plan) (operation : ℕ) (s t : CallStand) : Type 0 where
   pub id : ℕ
   pub some : id ≢ 0
   pub view : View Asked
   pub quiet : Quiet (found_id p operation id s).view view
   pub gone : (p.slots ≤ id_slot id) ⊎ ((word : ℕ) × Found (id_slot id) word view × LacksId (parts word) (id_first id))
+  pub gone_now : id_slot id < p.slots → (word : ℕ) × FoundNow (id_slot id) word s.view view × LacksId (parts word) (id_first id)
+  pub ended : id_slot id < p.slots → IsKnown (id_slot id) (id_first id) s.view → (word : ℕ) × FoundNow (id_slot id) word s.view view × (id_first id < (parts word).first)
   pub after : t ≡ record { view = view; books = s.books }
 
 abbrev pub JoinedBy : Plan → ℕ → Outcome → CallStand → CallStand → Type 0

@@ -5,7 +5,7 @@ use Rattle.corr_core.specs.declared.marks.View.{View}
 use Rattle.sock_message.specs.Asked.{Asked}
 use Rattle.corr_id.specs.declared.posts.Posted.{Posted}
 use Rattle.corr_id.specs.declared.posts.Posted.TheVariants.{Locked as HasLock, Queued as IsQueued, Gone, Stale, Crowded}
-use Rattle.corr_id.specs.PostAnswers.{PostOk}
+use Rattle.corr_id.specs.PostAnswers.{PostOk, PostedNow}
 use Rattle.call_errors.specs.ClientBooks.{CallStand}
 use Rattle.call_errors.specs.Handling.{Decided}
 
@@ -21,6 +21,7 @@ Handled code attempt (Crowded first second) s t = t ≡ s
 pub record PostedAs (slots : ℕ) (answer : Posted Asked) (s : CallStand) (id code : ℕ) (attempt : Maybe ℕ) (t : CallStand) : Type 0 where
   pub view : View Asked
   pub post : PostOk slots s.view view id code attempt answer
+  pub now : PostedNow slots s.view view id code attempt answer
   pub handled : Handled code attempt answer (record { view = view; books = s.books }) t
 
 abbrev pub PostedBy : ℕ → CallStand → ℕ → ℕ → Maybe ℕ → CallStand → Type 0

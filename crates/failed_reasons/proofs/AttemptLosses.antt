@@ -24,6 +24,7 @@ use Rattle.seat_programs.specs.declared.task.Op.{Op}
 use Rattle.seat_programs.specs.declared.task.Op.TheVariants as ops
 use Rattle.corr_core.specs.declared.marks.Plan as id_plan
 use Rattle.sock_message.specs.Asked.{Asked, name_of}
+use Rattle.attempts_told.specs.Below.WriteChain.Accepting.{full_found}
 use Rattle.attempts_told.specs.Below.WriteChain.Refused.{Refused}
 use Rattle.attempts_told.specs.Below.WriteChain.RefusedVariants as refusal
 use Rattle.attempts_told.specs.Below.CallAttempts.ClientAtBothTables.{Both}
@@ -102,7 +103,7 @@ module _ {O : Type 0} (state : O → OutState) (p : Plan) (q : id_plan.Plan) (co
       let saw = saw_there i (vref_version found.0) s.socks c.refused_at [] b.3 in let still = back.marks (is_saw (vref_version found.0)) (λ x. refl) i in let version = b.2 in
       was_dead (same_code EFAILEDSOCKET is) (found_dead p name socket v u t.socks f all (vref_version found.0) (omega (arith, saw, still)) (omega (arith, version)))
   came_why name operation socket msg v u (refusal.Full sock m) s t f grew c is =
-      let back = returned_grew socket.0 c.refused_at t.socks c.returned in was_full (same_code EREQUESTS is) (λ r low. back.seen (request_index p r) (c.refused_by.2 r low))
+      let back = returned_grew socket.0 c.refused_at t.socks c.returned in was_full (same_code EREQUESTS is) (λ r low. back.seen (request_index p r) (full_found p _ c.refused_at c.refused_by.2 r low))
 
   delivery_why : (name operation : ℕ) (socket : SocketId) (msg : Letter) (v u : View) (s t : Both) → Found p name (Some socket) v u → Grew u s.socks → (d : DeliveredBy state p q socket msg s t) → delivery_missed state p q socket msg s t d ≡ Some code → WhyMissed p q name operation code t.socks
   delivery_why name operation socket msg v u s t f grew (went_out w) is = absurd (none-some code is)

@@ -37,6 +37,7 @@ use Rattle.corr_core.specs.declared.marks.View.{View}
 use Rattle.sock_message.specs.Asked.{Asked, name_of}
 use Rattle.corr_id.specs.ClosingIdLists.{Closing}
 use Rattle.failed_ends.specs.Below.RpcClient.Told.{Told}
+use Rattle.failed_ends.specs.Below.WriteChain.Accepting.{full_found}
 use Rattle.failed_ends.specs.Below.WriteChain.RefusedVariants as refused
 use Rattle.failed_ends.specs.Below.CallAttempts.ClientAtBothTables.{Both}
 use Rattle.failed_ends.specs.Below.CallAttempts.Attempting.{DeliveredBy, went_out, came_back, AttemptedBy, nowhere, over_link}
@@ -116,7 +117,7 @@ module _ {O : Type 0} (state : O → OutState) (p : Plan) (q : id_plan.Plan) whe
       let b = c.refused_by in let back = returned_grew socket.0 c.refused_at t.socks c.returned in
       let saw = saw_there (socket_id_slot socket.0) (vref_version found.0) u.socks c.refused_at [] b.3 in let still = back.marks (is_saw (vref_version found.0)) (λ x. refl) (socket_id_slot socket.0) in let version = b.2 in
       saw_dead refl (vref_version found.0) (omega (arith, saw, still)) (omega (arith, version))
-  delivery_came socket msg u t (came_back (refused.Full s m) c) = let back = returned_grew socket.0 c.refused_at t.socks c.returned in saw_full refl (λ r low. back.seen (request_index p r) (c.refused_by.2 r low))
+  delivery_came socket msg u t (came_back (refused.Full s m) c) = let back = returned_grew socket.0 c.refused_at t.socks c.returned in saw_full refl (λ r low. back.seen (request_index p r) (full_found p _ c.refused_at c.refused_by.2 r low))
 
   attempt_over : (name link : ℕ) (socket : SocketId) (msg : Letter) (v : sock_view.View) (s t : Both) → Found p name (Some socket) v s.socks → (a : AttemptedBy state p q socket msg s t) → attempt_link state p q socket msg s t a ≡ Some link → IsOver p name link t.socks (attempt_entries state p q socket msg s t a)
   attempt_over name link socket msg v s t found (nowhere n) is = absurd (none-some link is)

@@ -1,5 +1,5 @@
 -- What was offered to a link stays what belongs to it: at its opening, by each call of its halves, and where it is settled.
-use Rattle.std.proofs.Common.{◌≡◌, ℕ, zero, suc, ◌≤◌, ◌⊎◌, inl, inr, ◌&&◌, ◌||◌, Bool, true, false, cond, List, [], ◌∷◌, ◌++◌, length, take, drop, Option, None, Some, refl, ap, sym, ◌∙◌, subst, arith, append_assoc, append-nil, length-append}
+use Rattle.std.proofs.Common.{◌≡◌, ◌≢◌, ℕ, zero, suc, ◌≤◌, ◌⊎◌, inl, inr, ◌&&◌, ◌||◌, Bool, true, false, cond, List, [], ◌∷◌, ◌++◌, length, min, take, drop, Option, None, Some, refl, ap, sym, ◌∙◌, subst, arith, append_assoc, append-nil, length-append}
 use Rattle.std.specs.Prelude.{flat_map}
 use Rattle.std.proofs.Math.Seq.{take-append_seam, drop-append_seam}
 use Rattle.std.proofs.lemmas.Bool.{leb-true, le-leb}
@@ -13,7 +13,7 @@ use Rattle.sock_io.specs.declared.ending.Ending.TheVariants as ending
 use Rattle.sock_io.specs.declared.link.Take.{Take}
 use Rattle.sock_io.specs.declared.link.Take.TheVariants as take_
 use Rattle.sock_io.specs.declared.link.LinkSpec.{LinkSpec}
-use Rattle.sock_io.specs.LinkHalves.{TakeStep, OfferTaken, IsServed, IsNewOffer, given_of, end_of}
+use Rattle.sock_io.specs.LinkHalves.{Offer, FillsRoom, TakeStep, OfferTaken, IsServed, IsNewOffer, given_of, offered_by, end_of}
 use Rattle.sock_io.specs.ShapeOfPuts.{ShapedState, shaped_out}
 use Rattle.brpc_model.specs.Items.{Shape}
 use Rattle.sock_io.specs.LinksInMemory.{MemInState, closing, empty_in, is_closing, is_open, mem_in, take_answer}
@@ -82,11 +82,23 @@ offer_taken old new room result step answer bytes ending_is peer = record {
   closed = pauses old.half.waiting old.half.ending (length room) result take_.Closed answer (λ n e. cc);
 }
 
+-- a take that gives bytes gives as many as wait and the room takes
+count_is : (waiting : List ℕ) (e : Ending) (size n : ℕ) → take_.Took n ≡ take_answer waiting e size → n ≡ min size (length waiting)
+count_is [] ending.Open size n is = absurd (cc)
+count_is [] ending.Ended size n is = absurd (cc)
+count_is [] ending.Closed size n is = absurd (cc)
+count_is (x ∷ waiting) e size n is = let count : n ≡ min (length (x ∷ waiting)) size = cc in omega (arith, count)
+
+fills_room : (o : Offer) (room : List ℕ) (result : Take) → result ≡ take_answer o.waiting o.ending (length room) → FillsRoom (Some o) room result
+fills_room o room (take_.Took n) is = count_is o.waiting o.ending (length room) n is
+fills_room o room _ is = tt
+
 -- a take of the half is one of the link
 pub step_taken : (old new : LoopInState) (room room' : List ℕ) (result : Take) → length room' ≡ length room → TakeStep (mem_in old.half) (mem_in new.half) room' result → result ≡ take_answer old.half.waiting old.half.ending (length room)
     → new.half.given ++ new.half.waiting ≡ old.half.given ++ old.half.waiting → new.half.ending ≡ old.half.ending → new.peer ≡ old.peer → TakeStep (loop_in old) (loop_in new) room' result
 step_taken old new room room' result long step answer bytes same peer = record {
   count = step.count;
+  fills = fills_room (offer_of old) room' result (answer ∙ ap (take_answer old.half.waiting old.half.ending) (sym long));
   gave = step.gave;
   bytes = step.bytes;
   end = step.end;
@@ -359,6 +371,31 @@ module _ (took : List ℕ) (finished : Bool) (half mid : MemInState) (peer new :
 
       closes : IsOffered took mid new → (new.fed ≡ took) ⊎ (is_ended mid.ending ≡ true) → IsOffered took (record mid { ending = closing mid.ending }) new
       closes o fed = record { left = o.left; begins = o.begins; offered = o.offered; ended = closing_ended mid.ending ∙ o.ended; closed = left o fed }
+
+-- behind a link that was finished an end is known
+known_to_end : (b finished : Bool) (e : Ending) → e ≡ ending_for b finished → finished ≡ true → e ≢ ending.Open
+known_to_end true finished e is over open_ = absurd (let z : ending.Ended ≡ ending.Open = sym is ∙ open_ in cc)
+known_to_end false true e is over open_ = absurd (let z : ending.Closed ≡ ending.Open = sym is ∙ open_ in cc)
+known_to_end false false e is over open_ = absurd (cc)
+
+pub settled_ends : (took : List ℕ) (finished : Bool) (i : LoopInState) → Settled took finished i → finished ≡ true → i.half.ending ≢ ending.Open
+settled_ends took finished i s = known_to_end (gives_end i.peer took) finished i.half.ending s.ending
+
+-- what callers see of a link that settled: it is served, all is offered that belongs to it, and where it was finished that is known to end
+pub settles : (took : List ℕ) (finished : Bool) (old new : LoopInState) → (IsServed took finished old.half.given (offer_of old) → Settled took finished new) → new.half.given ≡ old.half.given
+    → (o : Offer) (t gave : List ℕ) → Some (offer_of old) ≡ Some o → Some took ≡ Some t → Some old.half.given ≡ Some gave → IsServed t finished gave o
+    → (o' : Offer) × (Some (offer_of new) ≡ Some o') × IsServed t finished gave o' × (offered_by o' t ≡ offered_by o' o'.fed) × (finished ≡ true → o'.ending ≢ ending.Open)
+settles took finished old new settled same o t gave offer_is took_is gave_is s =
+    let a : o ≡ offer_of old = cc in
+    let b : t ≡ took = cc in
+    let c : gave ≡ old.half.given = cc in
+    let x : Settled took finished new = settled (subst (λ (y : Offer). IsServed took finished old.half.given y) a (subst (λ (l : List ℕ). IsServed l finished old.half.given o) b (subst (λ (l : List ℕ). IsServed t finished l o) c s))) in (
+      offer_of new,
+      refl,
+      subst (λ (l : List ℕ). IsServed l finished gave (offer_of new)) (sym b) (subst (λ (l : List ℕ). IsServed took finished l (offer_of new)) (same ∙ sym c) x.served),
+      ap (offered_by (offer_of new)) b ∙ sym x.offered ∙ x.served.offered,
+      settled_ends took finished new x,
+    )
 
 -- ## A new link, as callers see it
 

@@ -1,6 +1,6 @@
 ghost use Rattle.std.specs.Prelude.{◌≡◌, ◌⊎◌, ◌<◌, true, false, length, OnErr, OnOk};
 ghost use Rattle.sock_io.specs.LinkHalves.{IsServed, TakeStep};
-ghost use Rattle.sock_io.specs.LinksInMemory.{closing, is_closing};
+ghost use Rattle.sock_io.specs.LinksInMemory.{TakesWaiting, closing, is_closing};
 ghost use Rattle.loop_link.specs.ServingFedBytes.{Settled, first_ending, loop_in, new_in, offer_of};
 
 use crate::counts::is_reached;
@@ -82,6 +82,8 @@ impl In for LoopIn {
     fn take(&mut self, room: &mut [u8]) -> Take
         requires { 0 < length room.old }
         ensures step { TakeStep (loop_in self.old) (loop_in self.new) room.new result }
+        ensures half { TakesWaiting self.old.half self.new.half (length room.old) room.new result }
+        ensures peer { self.new.peer ≡ self.old.peer }
     {
         self.half.take(room)
     }

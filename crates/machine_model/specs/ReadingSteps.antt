@@ -78,14 +78,15 @@ pub record SameTables (old fresh : TableState) : Type 0 where
   pub letters : fresh.letters ≡ old.letters
   pub nexts : fresh.links.nexts ≡ old.links.nexts
 
--- a link that took and gave these bytes was offered what belongs to it behind a take as well, which found some of it, or nothing more where all was given
-pub record OffersOn (took : List ℕ) (finished : Bool) (gave : List ℕ) (before : Offer) (inn : InState) (taking : Taking) : Type 0 where
+-- a link that took and gave these bytes was offered what belongs to it behind a take as well, which found as much of it as the room takes, or nothing more
+-- where all was given
+pub record OffersOn (took : List ℕ) (finished : Bool) (gave : List ℕ) (before : Offer) (inn : InState) (room : ℕ) (taking : Taking) : Type 0 where
   pub offer : Offer
   pub is : inn.offer ≡ Some offer
   pub serve : offer.serve ≡ before.serve
   pub end : offer.end ≡ before.end
   pub served : IsServed took finished (gave ++ bytes_found taking) offer
-  pub all : GaveSo before.serve before.end took gave taking
+  pub all : GaveSo before.serve before.end took finished gave room taking
 
 -- the reading half of link k gave this, and the link shows it
 pub record TakenFrom (old fresh : TableState) (k room : ℕ) (taking : Taking) : Type 0 where
@@ -110,7 +111,7 @@ pub record TakenFrom (old fresh : TableState) (k room : ℕ) (taking : Taking) :
   pub closing : (inn'.closing ≡ inn.closing) ⊎ ((is_done old.links k ≡ true) × (inn'.closing ≡ option_map (λ _. true) inn.closing))
   -- where it was offered what belongs to it
   pub offers : (out : OutState) (before : Offer) (took gave : List ℕ) → get_elem? old.links.outs k ≡ core.some out → inn.offer ≡ Some before → out.took ≡ Some took → inn.gave_bytes ≡ Some gave → IsServed took out.finished gave before →
-      OffersOn took out.finished gave before inn' taking
+      OffersOn took out.finished gave before inn' room taking
 
 module _ (old fresh : TableState) (i : ℕ) (reader reader' : ReaderData) where
   abbrev pub read_program : Program

@@ -1,15 +1,17 @@
 -- What a take makes of its link, as it would be given back.
-use Rattle.std.proofs.Common.{◌≡◌, refl, ℕ, ◌+◌, ◌<◌, ◌⊎◌, inl, inr, ⊎_elim, Bool, true, false, List, [], ◌∷◌, ◌++◌, map, length, take, slice_set, slice_index_or, Option, Some, None, IfSome, option_map, ap, sym, ◌∙◌, subst, arith, append_assoc}
+use Rattle.std.proofs.Common.{◌≡◌, ◌≢◌, refl, ℕ, ◌+◌, ◌<◌, ◌⊎◌, inl, inr, ⊎_elim, Bool, true, false, List, [], ◌∷◌, ◌++◌, map, length, min, take, slice_set, slice_index_or, Option, Some, None, IfSome, option_map, ap, sym, ◌∙◌, subst, arith}
 use Rattle.std.specs.Io.KnownBytes.{append_known}
-use Rattle.std.proofs.lemmas.List.{map-set, length-take}
+use Rattle.std.proofs.lemmas.List.{map-set, length-take, take_min}
+use Rattle.std.proofs.Math.Seq.{take-append_seam}
 use Rattle.atomic_table.proofs.Lists.{at_map, at_index}
 use mathlib.Core.Option as core
 use lib.ListN.{get_elem?}
 use Rattle.brpc_model.specs.ReturnedLink.{LinkEnd, TakeTook}
+use Rattle.sock_io.specs.declared.ending.Ending.TheVariants as ending
 use Rattle.sock_io.specs.declared.link.Take.{Take}
 use Rattle.sock_io.specs.declared.link.Take.TheVariants as takes
 use Rattle.sock_io.specs.FaultCauses.{Rose}
-use Rattle.sock_io.specs.LinkHalves.{OutState, InState, Offer, IsServed, IsSettled, OfferTaken, OffersKept, OffersTaken, TakeStep, SettleStep, given_of, offered_by, of_take, more_told, end_of}
+use Rattle.sock_io.specs.LinkHalves.{OutState, InState, Offer, IsServed, IsSettled, FillsRoom, OfferTaken, OffersKept, OffersTaken, TakeStep, SettleStep, given_of, offered_by, of_take, more_told, end_of}
 use Rattle.sock_io.proofs.HalvesKeepOffers.{served_take, gave_offered, gave_to_end}
 use Rattle.machine_model.specs.run_theorems.specs.Heard.{answer_of, bytes_found}
 use Rattle.machine_model.specs.run_theorems.specs.OfferedAtTakes.{GaveSo}
@@ -68,24 +70,37 @@ module _ (inn inn' : InState) (room : List ℕ) where
 
 -- ## What was offered
 
--- a take finds what waits in front, and one that finds nothing more tells that all was given
-gave_so : (room took gave : List ℕ) (finished : Bool) (o o' : Offer) (answer : Take) → OfferTaken o o' (given_of room answer) answer → IsServed took finished gave o → offered_by o took ≡ offered_by o o.fed → GaveSo o.serve o.end took gave (taking_of room answer)
-gave_so room took gave finished o o' (takes.Took n) t s all = (o'.waiting, append_assoc gave (given_of room (takes.Took n)) o'.waiting ∙ ap (λ l. gave ++ l) t.waiting ∙ s.offered ∙ sym all)
-gave_so room took gave finished o o' takes.Empty t s all = gave_offered took gave finished o s (t.empty refl).0 ∙ sym all
-gave_so room took gave finished o o' takes.End t s all = gave_to_end took gave finished o s (t.end refl).0 (t.end refl).1
-gave_so room took gave finished o o' takes.Closed t s all = gave_offered took gave finished o s (t.closed refl).0 ∙ sym all
-gave_so room took gave finished o o' takes.Failed t s all = tt
+-- as many bytes as the room takes, which stand in front of what waits, are the ones that a room of this size takes of it
+front_taken : (room rest waiting : List ℕ) (n : ℕ) → n ≡ min (length room) (length waiting) → take n room ++ rest ≡ waiting → take n room ≡ take (length room) waiting
+front_taken room rest waiting n fills front =
+    let many : length (take n room) ≡ n = let all = length-take n room in omega (arith, all, fills) in
+    sym (take-append_seam (take n room) rest) ∙ ap (λ m. take m (take n room ++ rest)) many ∙ ap (take n) front ∙ ap (λ m. take m waiting) fills ∙ take_min (length room) waiting
+
+-- a link that isn't known to end isn't finished
+not_finished : (finished : Bool) (o : Offer) → (finished ≡ true → o.ending ≢ ending.Open) → o.ending ≡ ending.Open → finished ≡ false
+not_finished true o known open_ = absurd (known refl open_)
+not_finished false o known open_ = refl
+
+-- a take finds as much of what waits as its room takes, and one that finds nothing more tells that all was given
+gave_so : (room took gave : List ℕ) (finished : Bool) (o o' : Offer) (answer : Take) → FillsRoom (Some o) room answer → OfferTaken o o' (given_of room answer) answer → IsServed took finished gave o → offered_by o took ≡ offered_by o o.fed
+    → (finished ≡ true → o.ending ≢ ending.Open) → GaveSo o.serve o.end took finished gave (length room) (taking_of room answer)
+gave_so room took gave finished o o' (takes.Took n) fills t s all known = (o.waiting, s.offered ∙ sym all, front_taken room o'.waiting o.waiting n fills t.waiting)
+gave_so room took gave finished o o' takes.Empty fills t s all known = (gave_offered took gave finished o s (t.empty refl).0 ∙ sym all, not_finished finished o known (t.empty refl).1)
+gave_so room took gave finished o o' takes.End fills t s all known = gave_to_end took gave finished o s (t.end refl).0 (t.end refl).1
+gave_so room took gave finished o o' takes.Closed fills t s all known = gave_offered took gave finished o s (t.closed refl).0 ∙ sym all
+gave_so room took gave finished o o' takes.Failed fills t s all known = tt
 
 same_offer : {o o' : Offer} → Some o ≡ Some o' → o ≡ o'
 same_offer e = cc
 
 module _ (out : OutState) (inn mid inn' : InState) (room : List ℕ) (answer : Take) (settled : SettleStep out inn mid) (all : IsSettled out inn mid) (taken : TakeStep mid inn' room answer) where
   -- a link that was offered what belongs to it is offered it behind a settling and a take
-  offers_on : (before : Offer) (took gave : List ℕ) → inn.offer ≡ Some before → out.took ≡ Some took → inn.gave_bytes ≡ Some gave → IsServed took out.finished gave before → OffersOn took out.finished gave before inn' (taking_of room answer)
+  offers_on : (before : Offer) (took gave : List ℕ) → inn.offer ≡ Some before → out.took ≡ Some took → inn.gave_bytes ≡ Some gave → IsServed took out.finished gave before → OffersOn took out.finished gave before inn' (length room) (taking_of room answer)
   offers_on before took gave offer_is took_is gave_is s = by (all before took gave offer_is took_is gave_is s) (subst (λ o. OffersKept o mid.offer) offer_is settled.offer)
     where
-      by : ((o : Offer) × (mid.offer ≡ Some o) × IsServed took out.finished gave o × (offered_by o took ≡ offered_by o o.fed)) → ((o : Offer) × (mid.offer ≡ Some o) × (o.serve ≡ before.serve) × (o.end ≡ before.end)) → OffersOn took out.finished gave before inn' (taking_of room answer)
-      by (o, o_is, served, whole) (x, x_is, serve, end) =
+      by : ((o : Offer) × (mid.offer ≡ Some o) × IsServed took out.finished gave o × (offered_by o took ≡ offered_by o o.fed) × (out.finished ≡ true → o.ending ≢ ending.Open)) → ((o : Offer) × (mid.offer ≡ Some o) × (o.serve ≡ before.serve) × (o.end ≡ before.end))
+          → OffersOn took out.finished gave before inn' (length room) (taking_of room answer)
+      by (o, o_is, served, whole, known) (x, x_is, serve, end) =
           let same : x ≡ o = same_offer (sym x_is ∙ o_is) in
           let serve_is : o.serve ≡ before.serve = ap (λ (y : Offer). y.serve) (sym same) ∙ serve in
           let end_is : o.end ≡ before.end = ap (λ (y : Offer). y.end) (sym same) ∙ end in
@@ -95,7 +110,8 @@ module _ (out : OutState) (inn mid inn' : InState) (room : List ℕ) (answer : T
             serve = ap (λ (y : Offer). y.serve) t.2.same ∙ serve_is;
             end = ap (λ (y : Offer). y.end) t.2.same ∙ end_is;
             served = subst (λ l. IsServed took out.finished (gave ++ l) t.0) (sym (given_as room answer)) (served_take took gave (given_of room answer) out.finished o t.0 answer t.2 served);
-            all = subst (λ b. GaveSo b before.end took gave (taking_of room answer)) serve_is (subst (λ n. GaveSo o.serve n took gave (taking_of room answer)) end_is (gave_so room took gave out.finished o t.0 answer t.2 served whole));
+            all = subst (λ b. GaveSo b before.end took out.finished gave (length room) (taking_of room answer)) serve_is
+                (subst (λ n. GaveSo o.serve n took out.finished gave (length room) (taking_of room answer)) end_is (gave_so room took gave out.finished o t.0 answer (subst (λ q. FillsRoom q room answer) o_is taken.fills) t.2 served whole known));
           }
 
 -- ## Behind a settling
@@ -152,6 +168,7 @@ module _ {A : Type 0} (fo : A → OutState) (fi : A → InState) (old fresh : Ta
     closing = ⊎_elim (λ c. inl (taken.closing ∙ c)) (λ c. inr (done_is ∙ c.0, taken.closing ∙ c.1)) settled.closing;
     offers = λ out before took gave out_at offer_is took_is gave_is s.
         let same : fo x ≡ out = core.some-injective (fo x) out (sym (ap (λ (os : List OutState). get_elem? os k) outs ∙ at_by fo) ∙ out_at) in
-        subst (λ (o : OutState). OffersOn took o.finished gave before (fi y) (taking_of room answer)) same
-        (offers_on (fo x) (fi x) (fi mid) (fi y) room answer settled all taken before took gave offer_is (ap (λ (o : OutState). o.took) same ∙ took_is) gave_is (subst (λ (o : OutState). IsServed took o.finished gave before) (sym same) s));
+        subst (λ (m : ℕ). OffersOn took out.finished gave before (fi y) m (taking_of room answer)) roomy
+        (subst (λ (o : OutState). OffersOn took o.finished gave before (fi y) (length room) (taking_of room answer)) same
+        (offers_on (fo x) (fi x) (fi mid) (fi y) room answer settled all taken before took gave offer_is (ap (λ (o : OutState). o.took) same ∙ took_is) gave_is (subst (λ (o : OutState). IsServed took o.finished gave before) (sym same) s)));
   }

@@ -96,9 +96,9 @@ module _ (m : MachineState) (letters : length m.letters ≡ m.plan.requests) (fe
   pub finished_there : is_done m.links k ≡ true → IsFinished m.plan c k
   finished_there done = (took k, slice_index_or m.links.nexts k 0, lies_there true done)
 
-  -- and each has taken what it took
-  pub taken_there : HasTaken m.plan k c (took k)
-  taken_there = (slice_index_or m.links.nexts k 0, is_done m.links k, lies_there (is_done m.links k) refl)
+  -- and each has taken what it took, and is finished where it is done
+  pub taken_there : HasTaken m.plan k c (took k) (is_done m.links k)
+  taken_there = (slice_index_or m.links.nexts k 0, lies_there (is_done m.links k) refl)
 
 -- ## What is answered
 

@@ -1,5 +1,5 @@
 -- A link that was offered what belongs to it tells so in each take, and each step keeps that it is.
-use Rattle.std.proofs.Common.{◌≡◌, ◌≢◌, refl, ℕ, ◌+◌, ◌<◌, ◌≤◌, Bool, List, [], ◌∷◌, ◌++◌, length, slice_set, slice_index_or, Option, Some, IfSome, ap, sym, ◌∙◌, arith, subst}
+use Rattle.std.proofs.Common.{◌≡◌, ◌≢◌, refl, ℕ, ◌+◌, ◌<◌, ◌≤◌, Bool, false, List, [], ◌∷◌, ◌++◌, length, slice_set, slice_index_or, Option, Some, IfSome, ap, sym, ◌∙◌, arith, subst}
 use Rattle.std.specs.Io.KnownBytes.{append_known}
 use mathlib.Core.Logic.{dite}
 use native.Mathlib.Decide.{ℕ_discrete}
@@ -23,7 +23,7 @@ use Rattle.seat_states.specs.ProgramStepsOfMachine.{First, OfTable, OfAside, OfM
 use Rattle.seat_states.specs.ProgramStepsOfMachine as kinds
 use Rattle.reader_seats.specs.ReaderState.{ReaderData, reader_program}
 use Rattle.client_seats.specs.ClientSeatState.{SeatData}
-use Rattle.machine_model.specs.MachineLinks.{LinksData, Taken, Given, Agrees, AgreesGave, IsOffering}
+use Rattle.machine_model.specs.MachineLinks.{LinksData, Taken, Given, Agrees, AgreesGave, IsOffering, is_done}
 use Rattle.machine_model.specs.Machines.{MachineState, KeepsClosed, READERS, table_of, core_with}
 use Rattle.machine_model.specs.MachineSteps.{OutsAfter, MadeFirst}
 use Rattle.machine_model.specs.ReadingSteps.{OffersOn, TakenFrom, MadeRead}
@@ -118,7 +118,7 @@ module _ (old fresh : MachineState) (i : ℕ) (place seat' : SeatData) (step : S
 
 module _ (old fresh : MachineState) (x room : ℕ) (taking : Taking) (f : TakenFrom (table_of old) (table_of fresh) x room taking) (k : ℕ) (serve : Bool) (end : Option ℕ) (h : IsOffering old.links k serve end) where
   -- what was offered to the link of which bytes were taken
-  took_offers : k ≡ x → (h.inn ≡ f.inn) × OffersOn h.took h.out.finished h.gave h.offer f.inn' taking
+  took_offers : k ≡ x → (h.inn ≡ f.inn) × OffersOn h.took h.out.finished h.gave h.offer f.inn' room taking
   took_offers e =
       let same : h.inn ≡ f.inn = core.some-injective h.inn f.inn (sym h.inn_at ∙ ap (get_elem? old.links.inns) e ∙ f.at) in
       (same, f.offers h.out h.offer h.took h.gave (ap (get_elem? old.links.outs) (sym e) ∙ h.out_at) (ap (λ (i : InState). i.offer) (sym same) ∙ h.offer_is) h.took_is (ap (λ (i : InState). i.gave_bytes) (sym same) ∙ h.gave_is) h.served)
@@ -174,13 +174,17 @@ module _ (old fresh : MachineState) (n : ℕ) (reader reader' : ReaderData) (k :
     gave_is : h.gave ≡ slice_index_or before.calls.gave k []
     gave_is = subst (λ (o : Option (List ℕ)). IfSome o (λ bytes. bytes ≡ gave k)) h.gave_is (agrees_gave k h.inn h.inn_at).1 ∙ sym (given_at old.plan.links k gave inside)
 
-    gave_there : (x room : ℕ) (taking : Taking) → TakenFrom (table_of old) (table_of fresh) x room taking → x ≡ k → GaveSo serve end (took k) (slice_index_or before.calls.gave k []) taking
+    done_is : h.out.finished ≡ is_done old.links k
+    done_is = sym (ap (λ (o : core.Option OutState). elim o as (λ o. Bool) [ core.none ↦ false | core.some out ↦ out.finished ]) h.out_at)
+
+    gave_there : (x room : ℕ) (taking : Taking) → TakenFrom (table_of old) (table_of fresh) x room taking → x ≡ k → GaveSo serve end (took k) (is_done old.links k) (slice_index_or before.calls.gave k []) room taking
     gave_there x room taking f same =
-        subst (λ (s : Bool). GaveSo s end (took k) (slice_index_or before.calls.gave k []) taking) h.serves
-        (subst (λ (e : Option ℕ). GaveSo h.offer.serve e (took k) (slice_index_or before.calls.gave k []) taking) h.ends
-        (subst (λ (t : List ℕ). GaveSo h.offer.serve h.offer.end t (slice_index_or before.calls.gave k []) taking) took_is
-        (subst (λ (g : List ℕ). GaveSo h.offer.serve h.offer.end h.took g taking) gave_is
-        (took_offers old fresh x room taking f k serve end h (sym same)).1.all)))
+        subst (λ (s : Bool). GaveSo s end (took k) (is_done old.links k) (slice_index_or before.calls.gave k []) room taking) h.serves
+        (subst (λ (e : Option ℕ). GaveSo h.offer.serve e (took k) (is_done old.links k) (slice_index_or before.calls.gave k []) room taking) h.ends
+        (subst (λ (t : List ℕ). GaveSo h.offer.serve h.offer.end t (is_done old.links k) (slice_index_or before.calls.gave k []) room taking) took_is
+        (subst (λ (d : Bool). GaveSo h.offer.serve h.offer.end h.took d (slice_index_or before.calls.gave k []) room taking) done_is
+        (subst (λ (g : List ℕ). GaveSo h.offer.serve h.offer.end h.took h.out.finished g room taking) gave_is
+        (took_offers old fresh x room taking f k serve end h (sym same)).1.all))))
 
     -- the one seat whose tick it is
     at_own : (answer : Answer) → OffersAt old.plan k serve end before answer (first_step program) → AreOffered old.plan k serve end before (record { seat = i; answer = answer } ∷ [])
@@ -190,8 +194,9 @@ module _ (old fresh : MachineState) (n : ℕ) (reader reader' : ReaderData) (k :
     offers_asides (asides.TakeBytes x room) answer w = at_own answer (subst (OffersAt old.plan k serve end before answer) (sym w.2.is)
         (λ same taking e. (
           took k,
+          is_done old.links k,
           taken_there old letters few kept took gave k inside,
-          subst (GaveSo serve end (took k) (slice_index_or before.calls.gave k [])) (core.some-injective w.0 taking (sym (ap taken w.1) ∙ e)) (gave_there x room w.0 w.2.from same),
+          subst (GaveSo serve end (took k) (is_done old.links k) (slice_index_or before.calls.gave k []) room) (core.some-injective w.0 taking (sym (ap taken w.1) ∙ e)) (gave_there x room w.0 w.2.from same),
         )))
     offers_asides _ answer w = one_offers old.plan k serve end before (record { seat = i; answer = answer }) Unasked w.0 refl
 

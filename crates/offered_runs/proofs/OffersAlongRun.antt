@@ -1,5 +1,6 @@
 -- What each link of a run tells of what it was offered at its takes says what it was given at each of them, whatever it had taken by then.
-use Rattle.std.proofs.Common.{◌≡◌, ℕ, List, [], ◌∷◌, ◌++◌, Bool, true, refl, sym, ap, ◌∙◌, subst}
+use Rattle.std.proofs.Common.{◌≡◌, ℕ, List, [], ◌∷◌, ◌++◌, take, drop, Bool, true, refl, sym, ap, ◌∙◌, subst, append_assoc}
+use Rattle.std.proofs.lemmas.List.{take-append-drop}
 use Rattle.std.specs.Prelude.{slice_get, Some}
 use mathlib.Core.Option as core
 use Rattle.sock_model.specs.declared.home.Home.{Home}
@@ -48,16 +49,21 @@ module _ (script : List Item) where
   AllOnce c = (k : ℕ) → IsOnce (plan_of script) k c
 
   module _ (c : Core) (once : AllOnce c) (k : ℕ) (shape : Shape) where
-    one_took : (took t : List ℕ) → HasTaken (plan_of script) k c took → TookSoFar (plan_of script) c k t → took ≡ t
-    one_took took t a b = ap took_of (one_link (plan_of script) k c took t a.0 b.0 a.1 b.1 (once k) a.2 b.2)
+    one_took : (took t : List ℕ) (finished : Bool) → HasTaken (plan_of script) k c took finished → TookSoFar (plan_of script) c k t → took ≡ t
+    one_took took t finished a b = ap took_of (one_link (plan_of script) k c took t a.0 b.0 finished b.1 (once k) a.1 b.2)
 
-    offered_so : (taking : Taking) (took : List ℕ) → HasTaken (plan_of script) k c took → GaveSo shape.serve shape.end took (gave_in c k) taking → (taking ≡ Closed → IsDone (plan_of script) c k) → IsOfferedSo (plan_of script) shape c k taking
-    offered_so (Bytes bytes) took has gave done = λ t b. (gave.0, gave.1 ∙ ap (told.offered shape.serve shape.end) (one_took took t has b))
-    offered_so Nothing took has gave done = λ t b. gave ∙ ap (told.offered shape.serve shape.end) (one_took took t has b)
-    offered_so AtEnd took has gave done = λ t more b. gave more ∙ ap (λ x. told.offered shape.serve shape.end (x ++ more)) (one_took took t has b)
-    offered_so Closed took has gave done = (λ t b. gave ∙ ap (told.offered shape.serve shape.end) (one_took took t has b), done refl)
-    offered_so NoMore took has gave done = tt
-    offered_so Broken took has gave done = tt
+    -- what a take found and what it left are all that waited
+    parts : (gave waiting bytes : List ℕ) (room : ℕ) → bytes ≡ take room waiting → (gave ++ bytes) ++ drop room waiting ≡ gave ++ waiting
+    parts gave waiting bytes room is = append_assoc gave bytes (drop room waiting) ∙ ap (λ l. gave ++ l) (ap (λ l. l ++ drop room waiting) is ∙ take-append-drop room waiting)
+
+    offered_so : (room : ℕ) (taking : Taking) (took : List ℕ) (finished : Bool) → HasTaken (plan_of script) k c took finished → GaveSo shape.serve shape.end took finished (gave_in c k) room taking → (taking ≡ Closed → IsDone (plan_of script) c k)
+        → IsOfferedSo (plan_of script) shape c k taking
+    offered_so room (Bytes bytes) took finished has gave done = λ t b. (drop room gave.0, parts (gave_in c k) gave.0 bytes room gave.2 ∙ gave.1 ∙ ap (told.offered shape.serve shape.end) (one_took took t finished has b))
+    offered_so room Nothing took finished has gave done = λ t b. gave.0 ∙ ap (told.offered shape.serve shape.end) (one_took took t finished has b)
+    offered_so room AtEnd took finished has gave done = λ t more b. gave more ∙ ap (λ x. told.offered shape.serve shape.end (x ++ more)) (one_took took t finished has b)
+    offered_so room Closed took finished has gave done = (λ t b. gave ∙ ap (told.offered shape.serve shape.end) (one_took took t finished has b), done refl)
+    offered_so room NoMore took finished has gave done = tt
+    offered_so room Broken took finished has gave done = tt
 
     -- it was finished, wherever it lay
     is_done : IsFinished (plan_of script) c k → IsDone (plan_of script) c k
@@ -65,7 +71,7 @@ module _ (script : List Item) where
 
   offered_at : (c : Core) (answer : Answer) → AllOnce c → (program : Program) → Tells c answer program → ClosesAt (plan_of script) c answer program → OffersAt script c answer program
   offered_at c answer once (Aside (TakeBytes k room) next) tells closes = λ shape taking at is. let o = tells k shape at refl taking (ap taken is) in
-      offered_so c once k shape taking o.0 o.1 o.2 (λ closed. is_done c once k shape (closes (ap taken is ∙ ap core.some closed)))
+      offered_so c once k shape room taking o.0 o.1 o.2 o.3 (λ closed. is_done c once k shape (closes (ap taken is ∙ ap core.some closed)))
   offered_at c answer once _ tells closes = tt
 
   -- and those of ticks, one after another

@@ -4,68 +4,25 @@ ghost use Rattle.sock_io.specs.LinkHalves.{end_of};
 ghost use Rattle.sock_io.specs.ShapeOfPuts.{shaped_out};
 ghost use Rattle.ring_link.specs.RingHalves.{ring_in};
 
-use crossbeam_utils::Backoff;
+use crate::waits::Shared;
 use ring_link::{RingIn, RingLinker, RingOut, RingPeer};
 use sock_io::{Ends, Gate, LinkSpec, Linker, NoMemory, OpenFault, Out, Put, Ready, Shaped};
-use std::alloc::{AllocError, Global};
-use std::sync::atomic::{AtomicU64, Ordering};
 use std::sync::{Arc, Wait};
-
-/// How often a wait looks before it gives up.
-const TURNS: u32 = 1_000_000;
-
-/// What has come about so far, of the first put and of the client's second operation; and whether a wait was too long.
-#[derive(Drop)]
-pub struct Flags {
-    begun: AtomicU64,
-    asked: AtomicU64,
-    late: AtomicU64,
-}
-
-pub type Shared = Arc<Flags, Global>;
-
-/// Nothing has come about yet.
-pub fn new_flags(alloc: Global) -> Result<Shared, AllocError> {
-    let flags = Flags {
-        begun: AtomicU64::new(0),
-        asked: AtomicU64::new(0),
-        late: AtomicU64::new(0),
-    };
-    Ok(Arc::new(alloc, flags)?)
-}
-
-/// Whether each came about, with no wait that was too long.
-pub fn is_done(flags: &Flags) -> bool {
-    flags.begun.load(Ordering::SeqCst) != 0
-        && flags.asked.load(Ordering::SeqCst) != 0
-        && flags.late.load(Ordering::SeqCst) == 0
-}
-
-/// Waits for a flag, and not for ever.
-fn wait_for(flag: &AtomicU64, late: &AtomicU64) {
-    let backoff = Backoff::new();
-    'turns: for _ in 0..TURNS {
-        if flag.load(Ordering::SeqCst) != 0 {
-            return;
-        }
-        backoff.snooze();
-    }
-    late.store(1, Ordering::SeqCst);
-}
 
 /// Holds the first operation of client 2 until the first put has begun.
 #[derive(Drop)]
 pub struct HeldGate {
-    pub flags: Shared,
+    pub begun: Shared,
+    pub asked: Shared,
 }
 
 impl Gate for HeldGate {
     fn pass<R: Wait>(&self, _rt: &R, client: u16, operation: u16) {
         if client == 2 && operation == 1 {
-            wait_for(&self.flags.begun, &self.flags.late);
+            self.begun.wait(1);
         }
         if client == 2 && operation == 2 {
-            self.flags.asked.store(1, Ordering::SeqCst);
+            let _ = self.asked.note();
         }
     }
 }
@@ -74,15 +31,16 @@ impl Gate for HeldGate {
 #[derive(Drop)]
 pub struct HeldOut {
     half: Shaped<RingOut>,
-    flags: Shared,
+    begun: Shared,
+    asked: Shared,
 }
 
 impl Out for HeldOut {
     ghost state = { λ o. shaped_out o.half };
 
     fn put(&mut self, piece: &[u8]) -> Put {
-        if self.flags.begun.swap(1, Ordering::SeqCst) == 0 {
-            wait_for(&self.flags.asked, &self.flags.late);
+        if self.begun.note() == 0 {
+            self.asked.wait(1);
         }
         self.half.put(piece)
     }
@@ -106,11 +64,12 @@ type Link = Ends<HeldOut, RingIn, RingPeer>;
 #[derive(Drop)]
 pub struct HeldLinker<R: AllocGlobal + Drop> {
     inner: RingLinker<R>,
-    flags: Shared,
+    begun: Shared,
+    asked: Shared,
 }
 
 impl<R: AllocGlobal + Drop> HeldLinker<R> {
-    pub fn new(rt: R, flags: Shared) -> Self
+    pub fn new(rt: R, begun: Shared, asked: Shared) -> Self
         ensures asked { result.inner.asked ≡ [] }
         ensures back { result.inner.back ≡ [] }
         ensures accepted { result.inner.accepted ≡ 0 }
@@ -118,7 +77,8 @@ impl<R: AllocGlobal + Drop> HeldLinker<R> {
     {
         HeldLinker {
             inner: RingLinker::new(rt),
-            flags,
+            begun,
+            asked,
         }
     }
 }
@@ -133,12 +93,17 @@ impl<R: AllocGlobal + Drop> Linker for HeldLinker<R> {
     type P = RingPeer;
 
     fn open(&mut self, spec: &LinkSpec) -> Result<Link, OpenFault> {
-        let Ok(flags) = Arc::try_clone(&self.flags) else {
+        let (Ok(begun), Ok(asked)) = (Arc::try_clone(&self.begun), Arc::try_clone(&self.asked))
+        else {
             return Err(OpenFault::NoMemory);
         };
         match self.inner.open(spec) {
             Ok(Ends { out, inn, peer }) => Ok(Ends {
-                out: HeldOut { half: out, flags },
+                out: HeldOut {
+                    half: out,
+                    begun,
+                    asked,
+                },
                 inn,
                 peer,
             }),
@@ -159,7 +124,11 @@ impl<R: AllocGlobal + Drop> Linker for HeldLinker<R> {
     }
 
     fn done(&mut self, out: HeldOut, inn: RingIn) {
-        let HeldOut { half, flags: _ } = out;
+        let HeldOut {
+            half,
+            begun: _,
+            asked: _,
+        } = out;
         self.inner.done(half, inn);
     }
 
@@ -168,7 +137,11 @@ impl<R: AllocGlobal + Drop> Linker for HeldLinker<R> {
         ensures { self.new.inner ≡ record self.old.inner { back = self.old.inner.back ++ end_of (shaped_out ends.out.half) (ring_in ends.inn) ∷ [] } }
     {
         let Ends { out, inn, peer } = ends;
-        let HeldOut { half, flags: _ } = out;
+        let HeldOut {
+            half,
+            begun: _,
+            asked: _,
+        } = out;
         self.inner.back(
             link,
             Ends {

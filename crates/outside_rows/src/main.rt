@@ -6,12 +6,15 @@
 #![tactic(auto)]
 
 mod answer;
+mod between;
 mod crowd;
 mod held;
 mod noting;
 mod over;
 mod ports;
 mod rows;
+mod together;
+mod waits;
 
 use crate::ports::over_ports;
 use crate::rows::said;

@@ -2,9 +2,12 @@
 ghost use Rattle.brpc_eng.specs.ProgramAnswers.{UnusedLinker};
 
 use crate::answer::{Answer, Asked, answered, shown};
+use crate::between::{BetweenGate, NotedLinker};
 use crate::crowd::is_of_crowd;
-use crate::held::{HeldGate, HeldLinker, is_done, new_flags};
+use crate::held::{HeldGate, HeldLinker};
 use crate::noting::Noting;
+use crate::together::{CLIENTS, MeetingGate};
+use crate::waits::new_awaited;
 use loop_link::LoopLinker;
 use ring_link::RingLinker;
 use sock_io::{GiveLinker, Linker, OpenGate};
@@ -186,13 +189,49 @@ pub fn over_held<R: Threads + Wait + Sync + Alloc<A = Global>>(
     asked: Asked,
 ) -> Result<String, AllocError> {
     let alloc = rt.alloc();
-    let flags = new_flags(alloc)?;
+    let begun = new_awaited(alloc)?;
+    let asked_second = new_awaited(alloc)?;
     let gate = HeldGate {
-        flags: Arc::try_clone(&flags)?,
+        begun: Arc::try_clone(&begun)?,
+        asked: Arc::try_clone(&asked_second)?,
     };
-    let mut links = HeldLinker::new(rt, Arc::try_clone(&flags)?);
+    let mut links = HeldLinker::new(rt, Arc::try_clone(&begun)?, Arc::try_clone(&asked_second)?);
     let answer = answered(rt, asked, &mut links, &gate)?;
     let said = shown(alloc, &answer)?;
-    let is_done = is_done(&flags);
+    let is_done = begun.is_done(1) && asked_second.is_done(1);
+    format!(in alloc; "{said} done {is_done}")
+}
+
+/// Over rings, through a gate where three clients wait for one another: that, and whether they met.
+pub fn over_meeting<R: Threads + Wait + Sync + Alloc<A = Global>>(
+    rt: &R,
+    asked: Asked,
+) -> Result<String, AllocError> {
+    let alloc = rt.alloc();
+    let met = new_awaited(alloc)?;
+    let gate = MeetingGate {
+        met: Arc::try_clone(&met)?,
+    };
+    let mut links = RingLinker::new(rt);
+    let answer = answered(rt, asked, &mut links, &gate)?;
+    let said = shown(alloc, &answer)?;
+    let is_done = met.is_done(CLIENTS);
+    format!(in alloc; "{said} done {is_done}")
+}
+
+/// Over rings, where client 1 waits behind its first operation until a link gave bytes: that, and whether one did.
+pub fn over_between<R: Threads + Wait + Sync + Alloc<A = Global>>(
+    rt: &R,
+    asked: Asked,
+) -> Result<String, AllocError> {
+    let alloc = rt.alloc();
+    let given = new_awaited(alloc)?;
+    let gate = BetweenGate {
+        given: Arc::try_clone(&given)?,
+    };
+    let mut links = NotedLinker::new(rt, Arc::try_clone(&given)?);
+    let answer = answered(rt, asked, &mut links, &gate)?;
+    let said = shown(alloc, &answer)?;
+    let is_done = given.is_done(1);
     format!(in alloc; "{said} done {is_done}")
 }

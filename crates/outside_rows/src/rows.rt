@@ -1,8 +1,8 @@
 //! What a row asks.
 use crate::answer::Asked;
 use crate::over::{
-    back_of_rings, back_of_sinks, both, over_connection, over_crowd, over_given, over_held,
-    over_loops, over_rings, over_sinks,
+    back_of_rings, back_of_sinks, both, over_between, over_connection, over_crowd, over_given,
+    over_held, over_loops, over_meeting, over_rings, over_sinks,
 };
 use row_text::expanded;
 use std::alloc::{AllocError, Global};
@@ -42,6 +42,8 @@ fn over<R: Threads + Wait + Sync + Alloc<A = Global>>(
         "back-rings" => back_of_rings(rt, asked),
         "crowd" => over_crowd(rt, asked),
         "held" => over_held(rt, asked),
+        "together" => over_meeting(rt, asked),
+        "between" => over_between(rt, asked),
         _ => String::from_str(rt.alloc(), "no such links"),
     }
 }

@@ -178,5 +178,12 @@ settled_all (i ∷ m) ending.Open o took gave finished is s = absurd (none_known
 settled_all (i ∷ m) ending.Ended o took gave finished is s = all_ended o took gave finished s (sym (ap (λ (y : Offer). y.ending) (some_same (handed_on i ending.Ended) o is)))
 settled_all (i ∷ m) ending.Closed o took gave finished is s = all_closed o took gave finished s (sym (ap (λ (y : Offer). y.ending) (some_same (handed_on i ending.Closed) o is)))
 
+-- and it is known to end
+met_ends : (m : List LoopInState) (e : Ending) (o : Offer) → offer_met m e ≡ Some o → o.ending ≢ ending.Open
+met_ends [] e o is open_ = absurd (none_known o is)
+met_ends (i ∷ m) ending.Open o is open_ = absurd (none_known o is)
+met_ends (i ∷ m) ending.Ended o is open_ = absurd (let z : ending.Ended ≡ ending.Open = ap (λ (y : Offer). y.ending) (some_same (handed_on i ending.Ended) o is) ∙ open_ in cc)
+met_ends (i ∷ m) ending.Closed o is open_ = absurd (let z : ending.Closed ≡ ending.Open = ap (λ (y : Offer). y.ending) (some_same (handed_on i ending.Closed) o is) ∙ open_ in cc)
+
 pub settled_still : (out : OutState) (inn : RingInState) → IsSettled out (ring_in inn) (ring_in inn)
-settled_still out inn o took gave is t g s = (o, is, s, settled_all inn.met inn.reader.ending o took gave out.finished is s)
+settled_still out inn o took gave is t g s = (o, is, s, settled_all inn.met inn.reader.ending o took gave out.finished is s, λ _. met_ends inn.met inn.reader.ending o is)

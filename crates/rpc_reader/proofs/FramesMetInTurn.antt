@@ -3,7 +3,7 @@ use Rattle.std.proofs.Common.{◌≡◌, ℕ, ◌+◌, List, [], ◌∷◌, ◌+
 use Rattle.std.specs.Prelude.{Option, option_map, ◌&&◌}
 use Rattle.corr_core.specs.IdSlotWord.{Parts, parts}
 use Rattle.corr_core.specs.IdRangeVersions.{is_early}
-use Rattle.corr_id.specs.SeatBehindIdCalls.{Quiet, Found}
+use Rattle.corr_id.specs.SeatBehindIdCalls.{Quiet, Found, FoundNow}
 use Rattle.corr_id.specs.LocksByAttempt.{LacksAttempt}
 use Rattle.brpc_model.specs.Frame.{Judged, NoneYet, Faulty, judged}
 use Rattle.prpc_frame.specs.CutterAnswers.{Fed, IsFaulty}
@@ -79,9 +79,9 @@ for_responds slot w f e = (both (has_response f.meta.response) _ e).0
 
 -- the word that was found lacks the version
 pub lacked : (slots word : ℕ) (f : Frame) (b b' : Books) → is_asked slots f ≡ true → Quiet b.view b'.view × (((slots ≤ slot_in f) × (word ≡ 0)) ⊎ (Found (slot_in f) word b'.view × LacksAttempt (parts word) (version_in f)))
-    → b'.told ≡ b.told → KeptIf (is_early (version_in f) (parts word)) f b.early b.starved b'.early b'.starved → FrameMet slots f b b'
-lacked slots word f b b' e gone told kept = subst (λ (y : Bool). MetIf y slots f b b') (sym e)
-    (⊎_elim (λ x. let within = asked_inside slots f e in let past = x.0 in absurd (omega arith)) (λ x. inr record { quiet = gone.0; word = word; found = x.0; lacks = x.1; told = told; kept = kept }) gone.1)
+    → (slot_in f < slots → FoundNow (slot_in f) word b.view b'.view) → b'.told ≡ b.told → KeptIf (is_early (version_in f) (parts word)) f b.early b.starved b'.early b'.starved → FrameMet slots f b b'
+lacked slots word f b b' e gone now told kept = subst (λ (y : Bool). MetIf y slots f b b') (sym e)
+    (⊎_elim (λ x. let within = asked_inside slots f e in let past = x.0 in absurd (omega arith)) (λ x. inr record { quiet = gone.0; word = word; found = x.0; now = now (asked_inside slots f e); lacks = x.1; told = told; kept = kept }) gone.1)
 
 pub stops_faulty : (o : Option model.FrameFault) (old new : List ℕ) → option_map (λ f. Faulty f) o ≡ Some (judged old) → new ≡ old → (f : model.FrameFault) × (judged new ≡ Faulty f)
 stops_faulty o old new is same = let f = faulty o (judged old) is in (f.0, ap judged same ∙ f.1)

@@ -6,7 +6,7 @@ use Rattle.corr_core.specs.IdSlotWord.{Parts}
 use Rattle.corr_core.specs.declared.marks.Plan.{Plan}
 use Rattle.corr_core.specs.declared.marks.View.{View}
 use Rattle.id_rule.specs.LawfulIdTable.{notes_of}
-use Rattle.corr_id.specs.SeatBehindIdCalls.{GotLock}
+use Rattle.corr_id.specs.SeatBehindIdCalls.{GotLock, LockedNow}
 use Rattle.sock_message.specs.Asked.{Asked}
 use Rattle.rpc_reader.specs.ReaderBooks.{Books}
 use Rattle.rpc_reader.specs.PostingAtReadingEnd.{LockLost}
@@ -19,8 +19,8 @@ abbrev pub IsKnown : ℕ → View Asked → Type 0
 IsKnown id v = 0 < total (is_made (id_first id)) (notes_of (id_slot id) v.notes)
 
 -- a lock that was got by an id, and whose call ended
-pub ended_last : (slots code id slot : ℕ) (locked : View Asked) (found : ℕ) (word : Parts) (call : Asked) (b b' : Books) → slot ≡ id_slot id → slot < slots → (word.first ≤ id_first id) × (id_first id < word.first + word.range) → (0 < total (is_made (id_first id)) (notes_of (id_slot id) b.view.notes) → word.first ≡ id_first id) → GotLock slot b.view locked found word call → LockLost slot word call code (record b { view = locked }) b' → EndedLast slots code id b b'
-ended_last slots code id slot locked found word call b b' e inside range own got lost = record {
+pub ended_last : (slots code id slot : ℕ) (locked : View Asked) (found : ℕ) (word : Parts) (call : Asked) (b b' : Books) → slot ≡ id_slot id → slot < slots → (word.first ≤ id_first id) × (id_first id < word.first + word.range) → (0 < total (is_made (id_first id)) (notes_of (id_slot id) b.view.notes) → word.first ≡ id_first id) → GotLock slot b.view locked found word call → LockedNow slot b.view locked word → LockLost slot word call code (record b { view = locked }) b' → EndedLast slots code id b b'
+ended_last slots code id slot locked found word call b b' e inside range own got now lost = record {
   inside = subst (λ (n : ℕ). n < slots) e inside;
   locked = locked;
   found = found;
@@ -29,6 +29,7 @@ ended_last slots code id slot locked found word call b b' e inside range own got
   range = range;
   own = own;
   got = subst (λ (n : ℕ). GotLock n b.view locked found word call) e got;
+  now = subst (λ (n : ℕ). LockedNow n b.view locked word) e now;
   lost = subst (λ (n : ℕ). LockLost n word call code (record b { view = locked }) b') e lost;
 }
 

@@ -5,7 +5,7 @@ use Rattle.corr_core.specs.IdSlotWord.{Parts, parts}
 use Rattle.corr_core.specs.declared.marks.Plan.{Plan}
 use Rattle.corr_core.specs.declared.marks.View.{View}
 use Rattle.id_rule.specs.LawfulIdTable.{call_index, notes_of, with_kept}
-use Rattle.corr_id.specs.SeatBehindIdCalls.{GotLock, Quiet, Found, OutOf}
+use Rattle.corr_id.specs.SeatBehindIdCalls.{GotLock, Quiet, Found, FoundNow, LockedNow, OutOf}
 use Rattle.corr_id.specs.Ruled.{is_place}
 use Rattle.sock_message.specs.Asked.{Asked}
 use Rattle.rpc_reader.specs.ReaderBooks.{Books}
@@ -24,6 +24,7 @@ pub record HadEnded (slots id : ℕ) (b b' : Books) : Type 0 where
   pub quiet : Quiet b.view b'.view
   pub word : ℕ
   pub cause : ((slots ≤ id_slot id) × (word ≡ 0)) ⊎ (Found (id_slot id) word b'.view × OutOf (parts word) (id_first id))
+  pub now : id_slot id < slots → FoundNow (id_slot id) word b.view b'.view
   -- and if the seat knew that the id was made, the word has a later range
   pub later : id_slot id < slots → 0 < total (is_made (id_first id)) (notes_of (id_slot id) b.view.notes) → id_first id < (parts word).first
   pub same : b' ≡ record b { view = b'.view }
@@ -39,6 +40,7 @@ pub record EndedLast (slots code id : ℕ) (b b' : Books) : Type 0 where
   -- if the seat knew that this id was made, it is the one that was locked
   pub own : 0 < total (is_made (id_first id)) (notes_of (id_slot id) b.view.notes) → word.first ≡ id_first id
   pub got : GotLock (id_slot id) b.view locked found word call
+  pub now : LockedNow (id_slot id) b.view locked word
   pub lost : LockLost (id_slot id) word call code (record b { view = locked }) b'
 
 -- the operation's word had an id, which the seat keeps in mind; and with that no call is left

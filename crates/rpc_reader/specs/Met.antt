@@ -3,7 +3,7 @@ use Rattle.std.specs.Prelude.{◌≡◌, ◌+◌, ◌<◌, ◌==◌, ◌&&◌, �
 use Rattle.corr_core.specs.IdSlotWord.{Parts, parts}
 use Rattle.corr_core.specs.declared.marks.View.{View}
 use Rattle.corr_core.specs.IdRangeVersions.{has_version, is_early}
-use Rattle.corr_id.specs.SeatBehindIdCalls.{GotLock, Quiet, Found}
+use Rattle.corr_id.specs.SeatBehindIdCalls.{GotLock, Quiet, Found, FoundNow}
 use Rattle.corr_id.specs.LocksByAttempt.{LacksAttempt}
 use Rattle.sock_message.specs.Asked.{Asked}
 use Rattle.prpc_frame.specs.rpc_meta.specs.declared.meta.ResponseMeta.{ResponseMeta}
@@ -48,11 +48,12 @@ abbrev pub KeptIf : Bool → Frame → List Frame → Bool → List Frame → Bo
 KeptIf true f early starved early' starved' = KeptBy f early starved early' starved'
 KeptIf false f early starved early' starved' = (early' ≡ early) × (starved' ≡ starved)
 
--- the word that was found in its slot lacks the version: where that is one of a range that wasn't made yet, the response is kept, else it is passed over
+-- the word that this call found in its slot lacks the version: where that is one of a range that wasn't made yet, the response is kept, else it is passed over
 pub record LackedBy (f : Frame) (b b' : Books) : Type 0 where
   pub quiet : Quiet b.view b'.view
   pub word : ℕ
   pub found : Found (slot_in f) word b'.view
+  pub now : FoundNow (slot_in f) word b.view b'.view
   pub lacks : LacksAttempt (parts word) (version_in f)
   pub told : b'.told ≡ b.told
   pub kept : KeptIf (is_early (version_in f) (parts word)) f b.early b.starved b'.early b'.starved

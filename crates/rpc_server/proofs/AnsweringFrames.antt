@@ -1,5 +1,5 @@
 -- Frames that are answered one behind another, and what that makes of the stream.
-use Rattle.std.proofs.Common.{◌≡◌, ℕ, ◌+◌, ◌<◌, List, [], ◌∷◌, ◌++◌, length, ap, sym, ◌∙◌, subst, arith, append_assoc, append-nil, length-append}
+use Rattle.std.proofs.Common.{◌≡◌, ℕ, Bool, true, false, refl, ◌+◌, ◌<◌, List, [], ◌∷◌, ◌++◌, length, ap, sym, ◌∙◌, subst, arith, append_assoc, append-nil, length-append}
 use Rattle.std.specs.Prelude.{flat_map, filter_map, option_map, Option, Some, None, Ok}
 use Rattle.std.specs.List.{cons_option}
 use Rattle.std.proofs.lemmas.Grind.{flat_map-append}
@@ -44,3 +44,12 @@ shorter old new f there is leads = let P : Option code_.Frame → Type 0 = λ t.
 -- memory ran out behind these frames
 pub stopped_at : (c l : Held) (before now then_ : List ℕ) → Answered c l before now → then_ ≡ now → Stopped c before then_
 stopped_at c l before now then_ a same = record { frames = a.frames; left = l.bytes; cut = a.cut; appended = same ∙ a.appended }
+
+-- where no fault was told now, none was told before
+pub untold : (b : Bool) → (b ≡ true → false ≡ true) → b ≡ false
+untold true again = sym (again refl)
+untold false again = refl
+
+-- the frames were answered also where what is held is the same by its bytes and its count
+pub answered_same : (c l n : Held) (before now : List ℕ) → Answered c l before now → n.bytes ≡ l.bytes → n.made ≡ l.made → Answered c n before now
+answered_same c l n before now a bytes made = record { frames = a.frames; cut = subst (Cut c.bytes a.frames) (sym bytes) a.cut; appended = a.appended; counted = made ∙ a.counted }

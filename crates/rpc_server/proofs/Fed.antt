@@ -1,5 +1,5 @@
 -- What answering the whole frames says of the piece that was fed.
-use Rattle.std.proofs.Common.{◌≡◌, ℕ, zero, suc, ◌+◌, List, [], ◌++◌, length, drop, take, refl, ap, sym, ◌∙◌, arith, append-nil}
+use Rattle.std.proofs.Common.{◌≡◌, ℕ, zero, suc, ◌+◌, Bool, true, false, List, [], ◌++◌, length, drop, take, refl, ap, sym, ◌∙◌, arith, append-nil}
 use Rattle.std.specs.Prelude.{flat_map, filter_map, option_map, Option, Some, None, Result, Ok, Err}
 use Rattle.std.proofs.lemmas.List.Elements.{filter_map-append}
 use Rattle.std.proofs.Math.Seq.{take-append_seam}
@@ -7,6 +7,9 @@ use Rattle.brpc_model.specs.Frame.{FrameFault, Judged, NoneYet, Faulty, Begins, 
 use Rattle.brpc_model.specs.FrameStream.{Stream, Ending, Rest, Fault, goes_on, stream, stream_up_to, stream_from, is_fault}
 use Rattle.brpc_model.specs.Reply.{reply, reply_frames}
 use Rattle.prpc_frame.specs.FrameMeaning.{fault_of}
+use Rattle.prpc_frame.proofs.LastingStreamFacts.{faulty}
+use Rattle.prpc_frame.specs.HeldByCutter.{with_piece}
+use Rattle.prpc_frame.specs.HeldByCutter as cutter_
 use Rattle.prpc_frame.proofs.StreamCuts.{stream_begins, stream_whole, frames_then, stream_rest, stream_fault, frames_anywhere}
 use Rattle.rpc_server.specs.HeldByConnection.{Held}
 use Rattle.rpc_server.specs.declared.conn.ConnFault.{ConnFault}
@@ -32,7 +35,15 @@ same_faults (suc n) at at' bytes = goes_faults at at' bytes (judged bytes) (λ b
 faults_anywhere : (at : ℕ) (bytes : List ℕ) → is_fault (stream_from at bytes).ending ≡ has_fault bytes
 faults_anywhere at bytes = same_faults (suc (length bytes)) at 0 bytes
 
-module _ (c mid : Held) (piece : List ℕ) (goes : (at : ℕ) (more : List ℕ) → stream_from at (mid.bytes ++ more) ≡ stream_from at (c.bytes ++ (piece ++ more))) (made : mid.made ≡ c.made) where
+-- a cutter that is fed tells its fault as before
+pub tells_on : (old : cutter_.Held) (piece : List ℕ) → (with_piece old piece).told ≡ old.told
+tells_on old piece = by old.told refl
+  where
+    by : (b : Bool) → old.told ≡ b → (with_piece old piece).told ≡ old.told
+    by true e = grind (arith, e)
+    by false e = grind (arith, e)
+
+module _ (c mid : Held) (piece : List ℕ) (goes : (at : ℕ) (more : List ℕ) → stream_from at (mid.bytes ++ more) ≡ stream_from at (c.bytes ++ (piece ++ more))) (made : mid.made ≡ c.made) (told : mid.told ≡ c.told) where
   whole : stream (c.bytes ++ piece) ≡ stream mid.bytes
   whole = sym (ap stream (sym (append-nil mid.bytes)) ∙ (goes 0 [] ∙ ap (λ l. stream (c.bytes ++ l)) (append-nil piece)))
 
@@ -62,7 +73,7 @@ module _ (c mid : Held) (piece : List ℕ) (goes : (at : ℕ) (more : List ℕ) 
       (length s.frames, s.appended ∙ ap (λ l. before ++ flat_map frame_bytes (filter_map reply l)) (sym (ap (take (length s.frames)) split ∙ take-append_seam s.frames (stream_from s.cut.size s.left).frames)))
 
   pub fed_whole : (before now : List ℕ) (result : Result (Unit {0}) ConnFault) (c' : Held) → AnswersWhole mid before result c' now → Feeds c piece before result c' now
-  fed_whole before now (Ok u) c' x = let is = stream_rest mid.bytes c'.bytes x.0.frames x.0.cut x.1 in (replied c' before now x.0 (Rest (length c'.bytes)) is, ends c' before now x.0 (Rest (length c'.bytes)) is)
+  fed_whole before now (Ok u) c' x = let is = stream_rest mid.bytes c'.bytes x.0.frames x.0.cut x.1 in (replied c' before now x.0 (Rest (length c'.bytes)) is, ends c' before now x.0 (Rest (length c'.bytes)) is, sym told ∙ x.2, x.3)
   fed_whole before now (Err (fault_.Frame fault)) c' x = let meant = fault_meant (fault_of fault) (judged c'.bytes) x.1 in let is = stream_fault mid.bytes c'.bytes x.0.frames x.0.cut meant.0 meant.2 in
-      let ending : Ending = Fault x.0.cut.size meant.0 in (replied c' before now x.0 ending is, (x.0.cut.size, meant.0, meant.1, ends c' before now x.0 ending is))
-  fed_whole before now (Err fault_.NoMemory) c' x = stopped before now x
+      let ending : Ending = Fault x.0.cut.size meant.0 in (replied c' before now x.0 ending is, (x.0.cut.size, meant.0, meant.1, ends c' before now x.0 ending is, λ more. ap (λ (s : Stream). s.ending) (faulty 0 c'.bytes more meant.0 meant.2)), x.2)
+  fed_whole before now (Err fault_.NoMemory) c' x = let s = stopped before now x.0 in (s.0, s.1, sym told ∙ x.1)

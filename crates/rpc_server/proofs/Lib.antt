@@ -1,3 +1,5 @@
 pub mod ByteTotals
 pub mod AnsweringFrames
 pub mod Fed
+pub mod SmallFrames
+pub mod ResponseMetaSize

@@ -1,5 +1,6 @@
 -- What an answer of a service means.
-use Rattle.std.specs.Prelude.{◌≡◌, ℕ, List, codes}
+use Rattle.std.specs.Prelude.{◌≡◌, ℕ, ◌+◌, ◌≤◌, List, length, codes}
+use Rattle.brpc_model.specs.Frame.{body_limit}
 use Rattle.brpc_model.specs.Reply as model
 use Rattle.rpc_server.specs.declared.service.Answer.{Answer}
 use Rattle.rpc_server.specs.declared.service.Answer.TheVariants.{Gives, Refuses}
@@ -23,3 +24,8 @@ meant (Refuses refusal) = model.Refuses (code_of refusal) (text_of refusal)
 
 abbrev pub IsAnswer : model.Answer → Answer → Type 0
 IsAnswer a answer = meant answer ≡ a
+
+-- what it gives is no larger than the body of a frame may be
+abbrev pub IsSmall : Answer → Type 0
+IsSmall (Gives payload attachment) = length payload.items + length attachment.items ≤ body_limit
+IsSmall (Refuses refusal) = Unit {0}

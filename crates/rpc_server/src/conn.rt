@@ -1,4 +1,5 @@
-ghost use Rattle.std.specs.Prelude.{◌≡◌, ◌+◌, ◌++◌, length, OnOk, OnErr};
+ghost use Rattle.std.specs.Prelude.{◌≡◌, ◌+◌, ◌≤◌, ◌++◌, length, OnOk, OnErr};
+ghost use Rattle.brpc_model.specs.Frame.{body_limit};
 ghost use Rattle.prpc_frame.specs.FrameMeaning.{frame_of};
 ghost use Rattle.rpc_server.specs.Feeding.{Feeds, AnswersWhole, replies_to, reply_bytes};
 ghost use Rattle.rpc_server.specs.declared.conn.ConnFault.TheVariants.{NoMemory as no_memory};
@@ -28,7 +29,7 @@ impl From<NoMemory> for ConnFault {
 
 /// The server's end of a connection: it is fed what the client put, in any pieces, and answers each whole request frame in
 /// order. It holds no more than one frame that isn't whole. Behind a frame's fault it holds nothing. Contracts see
-/// the bytes that were fed and stand in no frame, and how many replies it made.
+/// the bytes that were fed and stand in no frame, how many replies it made, and whether it has answered a frame's fault.
 #[derive(Drop)]
 pub struct Conn {
     cutter: Cutter,
@@ -72,7 +73,7 @@ impl Conn {
     /// Takes the next bytes, and appends the replies to the request frames that became whole.
     ///
     /// `Frame` comes exactly where the bytes go on with no frame, with the replies before it appended, and from then on for
-    /// good. Behind `NoMemory` the replies to some first frames were appended.
+    /// good, with the same fault. Behind `NoMemory` the replies to some first frames were appended.
     pub fn feed(
         &mut self,
         pool: &mut BlockPool,
@@ -106,7 +107,9 @@ impl Conn {
         out: &mut IoBuf,
         frame: Frame,
     ) -> Result<(), NoMemory>
+        requires { length frame.payload.items + length frame.attachment.items ≤ body_limit }
         ensures bytes { self.new.bytes ≡ self.old.bytes }
+        ensures told { self.new.told ≡ self.old.told }
         ensures appended { OnOk result (out.new.items ≡ out.old.items ++ reply_bytes (frame_of frame)) }
         ensures counted { OnOk result (self.new.made ≡ self.old.made + length (replies_to (frame_of frame))) }
         ensures kept { OnErr result (out.new.items ≡ out.old.items) }

@@ -1,10 +1,10 @@
-ghost use Rattle.std.specs.Prelude.{◌≡◌, ◌+◌, ◌≤◌, true, length, option_map, IfOk};
+ghost use Rattle.std.specs.Prelude.{◌≡◌, ◌+◌, ◌≤◌, true, [], length, option_map, IfOk};
 ghost use Rattle.brpc_model.specs.Frame.{frame_bytes, body_limit};
 ghost use Rattle.brpc_model.specs.Spelling.{meta_bytes};
-ghost use Rattle.brpc_model.specs.Reply.{reply, answered_by, response_with};
 ghost use Rattle.rpc_meta.specs.MetaMeaning.{meaning};
+ghost use Rattle.brpc_model.specs.Reply.{reply, answered_by, response_with};
 ghost use Rattle.prpc_frame.specs.FrameMeaning.{frame_of};
-ghost use Rattle.rpc_server.specs.ServiceAnswers.{code_of, text_of, meant};
+ghost use Rattle.rpc_server.specs.ServiceAnswers.{code_of, text_of, meant, IsSmall};
 
 use crate::service::{Answer, Refusal, serve};
 use io_buf::{BlockPool, IoBuf, NoMemory};
@@ -15,13 +15,14 @@ use std::alloc::Global;
 /// The most bytes that a frame's body has (bRPC's default).
 const BODY_LIMIT: usize = 67_108_864;
 
-/// The reply to a frame, in its bytes: none where the frame has no request. Want of memory also comes where the reply
-/// would be larger than a frame may be.
+/// The reply to a frame, in its bytes: none where the frame has no request. The frame is no larger than one may be. Want of
+/// memory would also come where the reply were larger, which none is: a request that names service and method is longer.
 pub fn reply_to(
     alloc: Global,
     pool: &mut BlockPool,
     frame: Frame,
 ) -> Result<Option<IoBuf>, NoMemory>
+    requires { length frame.payload.items + length frame.attachment.items ≤ body_limit }
     ensures { IfOk result (λ r. option_map (λ b. b.items) r ≡ option_map frame_bytes (reply (frame_of frame))) }
 {
     let Frame {
@@ -57,7 +58,8 @@ impl Refusal {
 
     /// The text of the response.
     pub fn text(self) -> &'static [u8]
-        ensures { result.now ≡ text_of self }
+        ensures text { result.now ≡ text_of self }
+        ensures short { length result.now ≤ 11 }
     {
         match self {
             Refusal::NoService => b"no service",
@@ -69,6 +71,7 @@ impl Refusal {
 
 // The frame of an answer.
 fn answered(alloc: Global, pool: &mut BlockPool, id: u64, answer: Answer) -> Result<IoBuf, NoMemory>
+    requires { IsSmall answer }
     ensures { IfOk result (λ b. b.items ≡ frame_bytes (answered_by id (meant answer))) }
 {
     match answer {
@@ -101,15 +104,30 @@ fn respond(
     payload: &IoBuf,
     attachment: &IoBuf,
 ) -> Result<IoBuf, NoMemory>
+    requires short { length text.now ≤ 11 }
+    requires small { length payload.now.items + length attachment.now.items ≤ body_limit }
     ensures { IfOk result (λ b. b.items ≡ frame_bytes (response_with id «code» text.now payload.now.items attachment.now.items)) }
 {
-    let Ok(attachment_size) = i32::try_from(attachment.len()) else {
-        return Err(NoMemory);
-    };
     let Ok(text) = MetaBytes::copy(alloc, text) else {
         return Err(NoMemory);
     };
-    let meta = RpcMeta {
+    let meta = response_meta(id, code, text, attachment);
+    if !is_small(spelled_len(&meta), payload.len(), attachment.len()) {
+        return Err(NoMemory);
+    }
+    encode(alloc, pool, &meta, payload, attachment)
+}
+
+// The meta of a response.
+fn response_meta(id: u64, code: u16, text: MetaBytes, attachment: &IoBuf) -> RpcMeta
+    requires { length attachment.now.items ≤ body_limit }
+    ensures { meaning result ≡ (response_with id «code» text [] attachment.now.items).meta }
+{
+    // A body's limit is far below what 32 bits hold.
+    let Ok(attachment_size) = i32::try_from(attachment.len()) else {
+        unreachable!();
+    };
+    RpcMeta {
         request: None,
         response: Some(ResponseMeta {
             code: i32::from(code),
@@ -118,21 +136,18 @@ fn respond(
         compress_type: 0,
         correlation_id: id,
         attachment_size,
-    };
-    if !is_small(meta_len(&meta)?, payload.len(), attachment.len()) {
-        return Err(NoMemory);
     }
-    encode(alloc, pool, &meta, payload, attachment)
 }
 
-// How many bytes the meta has when it is written.
-fn meta_len(meta: &RpcMeta) -> Result<usize, NoMemory>
-    ensures { IfOk result (λ n. n ≡ length (meta_bytes (meaning meta.now))) }
+// How many bytes the meta has when it is written, which are few.
+fn spelled_len(meta: &RpcMeta) -> usize
+    requires few { length (meta_bytes (meaning meta.now)) ≤ body_limit }
+    ensures { result ≡ length (meta_bytes (meaning meta.now)) }
 {
-    match meta.spelled_size() {
-        Some(size) => Ok(size),
-        None => Err(NoMemory),
-    }
+    let Some(size) = meta.spelled_size() else {
+        unreachable!();
+    };
+    size
 }
 
 // Whether the three are a body that a frame may have.

@@ -1,7 +1,8 @@
-ghost use Rattle.std.specs.Prelude.{◌≡◌, ◌≤◌, length, reverse, sum, pos, IfOk};
+ghost use Rattle.std.specs.Prelude.{◌≡◌, ◌+◌, ◌*◌, ◌≤◌, length, reverse, sum, pos, IfOk};
+ghost use Rattle.brpc_model.specs.Frame.{body_limit};
 ghost use Rattle.brpc_model.specs.Reply.{served, echo, summing};
 ghost use Rattle.rpc_meta.specs.MetaMeaning.{request_of};
-ghost use Rattle.rpc_server.specs.ServiceAnswers.{IsAnswer};
+ghost use Rattle.rpc_server.specs.ServiceAnswers.{IsAnswer, IsSmall};
 
 use io_buf::{BlockPool, IoBuf, NoMemory};
 use rpc_meta::RequestMeta;
@@ -28,7 +29,7 @@ pub enum Refusal {
 }
 
 /// Answers a request: `Echo.Echo` payload and attachment as they came, `Echo.Reverse` the payload reversed, `Sum.Bytes` the
-/// sum of the payload's bytes in eight bytes, the highest first.
+/// sum of the payload's bytes in eight bytes, the highest first. Payload and attachment are those of a frame, and so small.
 pub fn serve(
     alloc: Global,
     pool: &mut BlockPool,
@@ -37,7 +38,9 @@ pub fn serve(
     payload: IoBuf,
     attachment: IoBuf,
 ) -> Result<Answer, NoMemory>
-    ensures { IfOk result (λ a. IsAnswer (served compress_type (request_of request.now) payload.items attachment.items) a) }
+    requires { length payload.items + length attachment.items ≤ body_limit }
+    ensures answer { IfOk result (λ a. IsAnswer (served compress_type (request_of request.now) payload.items attachment.items) a) }
+    ensures small { IfOk result IsSmall }
 {
     if compress_type != 0 {
         return Ok(Answer::Refuses(Refusal::BadRequest));
@@ -53,7 +56,9 @@ fn serve_plain(
     payload: IoBuf,
     attachment: IoBuf,
 ) -> Result<Answer, NoMemory>
-    ensures { IfOk result (λ a. IsAnswer (served (pos 0) (request_of request.now) payload.items attachment.items) a) }
+    requires { length payload.items + length attachment.items ≤ body_limit }
+    ensures answer { IfOk result (λ a. IsAnswer (served (pos 0) (request_of request.now) payload.items attachment.items) a) }
+    ensures small { IfOk result IsSmall }
 {
     let method = request.method.as_slice();
     let service = request.service.as_slice();
@@ -74,7 +79,9 @@ fn serve_echo(
     payload: IoBuf,
     attachment: IoBuf,
 ) -> Result<Answer, NoMemory>
-    ensures { IfOk result (λ a. IsAnswer (echo method.now payload.items attachment.items) a) }
+    requires { length payload.items + length attachment.items ≤ body_limit }
+    ensures answer { IfOk result (λ a. IsAnswer (echo method.now payload.items attachment.items) a) }
+    ensures small { IfOk result IsSmall }
 {
     if method == b"Echo".as_slice() {
         Ok(Answer::Gives {
@@ -98,12 +105,14 @@ fn serve_sum(
     method: &[u8],
     payload: IoBuf,
 ) -> Result<Answer, NoMemory>
-    ensures { IfOk result (λ a. IsAnswer (summing method.now payload.items) a) }
+    requires { length payload.items ≤ body_limit }
+    ensures answer { IfOk result (λ a. IsAnswer (summing method.now payload.items) a) }
+    ensures small { IfOk result IsSmall }
 {
     if method != b"Bytes".as_slice() {
         return Ok(Answer::Refuses(Refusal::NoMethod));
     }
-    let total = sum_of(payload)?;
+    let total = sum_of(payload);
     let mut bytes = IoBuf::new(alloc);
     bytes.append_bytes(pool, &total.to_be_bytes())?;
     Ok(Answer::Gives {
@@ -124,27 +133,26 @@ fn reversed(alloc: Global, pool: &mut BlockPool, payload: &IoBuf) -> Result<IoBu
     Ok(bytes)
 }
 
-// The sum of the bytes, which fits unless there are more of them than addresses.
-fn sum_of(mut payload: IoBuf) -> Result<u64, NoMemory>
-    ensures { IfOk result (λ n. n ≡ sum payload.items) }
+// The sum of the bytes of a payload.
+fn sum_of(mut payload: IoBuf) -> u64
+    requires { length payload.items ≤ body_limit }
+    ensures { result ≡ sum payload.items }
 {
     let mut total = 0u64;
     while !payload.is_empty() {
         let piece = payload.first_piece();
-        let Some(more) = total.checked_add(sum_of_piece(piece)) else {
-            return Err(NoMemory);
-        };
-        total = more;
+        total += sum_of_piece(piece);
         let taken = piece.len();
         payload.pop_front(taken);
     }
-    Ok(total)
+    total
 }
 
 // The sum of the bytes of one reference.
 fn sum_of_piece(piece: &[u8]) -> u64
     requires { length piece.now ≤ 8192 }
-    ensures { result ≡ sum piece.now }
+    ensures sum { result ≡ sum piece.now }
+    ensures at_most { result ≤ 255 * length piece.now }
 {
     piece.iter().map(|byte| u64::from(*byte)).sum()
 }

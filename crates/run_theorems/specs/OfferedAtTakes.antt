@@ -1,5 +1,5 @@
 -- What links gave of what their other ends offer, at each take.
-use Rattle.std.specs.Prelude.{ℕ, ◌≡◌, ◌⊎◌, Bool, if◌then◌else◌, List, [], ◌∷◌, ◌++◌, flat_map, slice_index_or, Option}
+use Rattle.std.specs.Prelude.{ℕ, ◌≡◌, ◌⊎◌, Bool, false, if◌then◌else◌, List, [], ◌∷◌, ◌++◌, take, flat_map, slice_index_or, Option}
 use mathlib.Core.Option as core
 use lib.ListN.{get_elem?}
 use Rattle.sock_words.specs.declared.plain.Plan.{Plan}
@@ -18,25 +18,26 @@ use Rattle.seat_programs.specs.LoopRounds.{first_step}
 abbrev pub offered : Bool → Option ℕ → List ℕ → List ℕ
 offered serve end bytes = if serve then flat_map frame_bytes (first_of end (reply_frames bytes)) else []
 
--- A take finds some of what is offered for what the link took, in its order. Where it finds nothing, or that the link is closed, the link gave all of that;
--- where it finds the end, also for whatever else it takes.
-abbrev pub GaveSo : Bool → Option ℕ → List ℕ → List ℕ → Taking → Type 0
-GaveSo serve end took gave (Bytes bytes) = (more : List ℕ) × ((gave ++ bytes) ++ more ≡ offered serve end took)
-GaveSo serve end took gave Nothing = gave ≡ offered serve end took
-GaveSo serve end took gave AtEnd = (more : List ℕ) → gave ≡ offered serve end (took ++ more)
-GaveSo serve end took gave Closed = gave ≡ offered serve end took
-GaveSo serve end took gave other = Unit {0}
+-- A take finds as many of the bytes that wait as its room takes, from their front: of what is offered for what the link took, those that it didn't give so
+-- far. Where it finds nothing, the link gave all of that and isn't finished; where it finds that the link is closed, it gave all of that; and where it finds
+-- the end, also for whatever else it takes.
+abbrev pub GaveSo : (serve : Bool) (end : Option ℕ) (took : List ℕ) (finished : Bool) (gave : List ℕ) (room : ℕ) → Taking → Type 0
+GaveSo serve end took finished gave room (Bytes bytes) = (waiting : List ℕ) × (gave ++ waiting ≡ offered serve end took) × (bytes ≡ take room waiting)
+GaveSo serve end took finished gave room Nothing = (gave ≡ offered serve end took) × (finished ≡ false)
+GaveSo serve end took finished gave room AtEnd = (more : List ℕ) → gave ≡ offered serve end (took ++ more)
+GaveSo serve end took finished gave room Closed = gave ≡ offered serve end took
+GaveSo serve end took finished gave room other = Unit {0}
 
 module _ (p : Plan) (k : ℕ) where
-  -- link k took these bytes, wherever it lies, at home or in a seat's hand
-  abbrev pub HasTaken : Core → List ℕ → Type 0
-  HasTaken c took = (next : ℕ) × (done : Bool) × ((get_elem? c.homes (link_place p k) ≡ core.some (core.some (Link k took next done)))
+  -- link k took these bytes, and is finished or not, wherever it lies, at home or in a seat's hand
+  abbrev pub HasTaken : Core → List ℕ → Bool → Type 0
+  HasTaken c took done = (next : ℕ) × ((get_elem? c.homes (link_place p k) ≡ core.some (core.some (Link k took next done)))
       ⊎ ((j : ℕ) × (seat : SeatState) × (get_elem? c.seats j ≡ core.some seat) × InHand (Link k took next done) seat.hand))
 
   module _ (serve : Bool) (end : Option ℕ) where
     -- a take of it, which its other end answered so
     abbrev pub OffersAt : Core → Answer → Program → Type 0
-    OffersAt c answer (Aside (TakeBytes j room) next) = j ≡ k → (taking : Taking) → taken answer ≡ core.some taking → (took : List ℕ) × HasTaken c took × GaveSo serve end took (slice_index_or c.calls.gave k []) taking
+    OffersAt c answer (Aside (TakeBytes j room) next) = j ≡ k → (taking : Taking) → taken answer ≡ core.some taking → (took : List ℕ) × (finished : Bool) × HasTaken c took finished × GaveSo serve end took finished (slice_index_or c.calls.gave k []) room taking
     OffersAt c answer other = Unit {0}
 
     -- at each of these ticks

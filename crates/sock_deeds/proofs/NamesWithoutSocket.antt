@@ -13,6 +13,7 @@ use Rattle.sock_words.specs.PackedWords.{socket_id_slot}
 use Rattle.sock_message.specs.Asked.{name_of}
 use Rattle.sock_model.specs.declared.view.View.{View}
 use Rattle.sock_model.specs.SocketTableLayout.{name_index, request_index}
+use Rattle.rpc_client.specs.write_chain.proofs.Accepting.{full_found}
 use Rattle.sock_model.specs.SlotRows.{marks_of}
 use Rattle.sock_model.specs.MarkWeights.{is_born, is_tried}
 use Rattle.rpc_client.specs.sock_rule.specs.declared.homes.Letter.{Letter}
@@ -182,4 +183,4 @@ module _ {O : Type 0} {g : Ghosts O} {state : O → OutState} {p : Plan} {client
   pub was_full : (b : Act run) (n : ℕ) (msg : Letter) → SentOver state p n msg (Some outcome.Full) (before run b) (after run b) → p.requests ≤ length (log run)
   was_full b n msg s =
       let d = s.delivered in
-      run.closed.ordered.full (λ q low. has_seen run b (request_index p q) ((returned_grew s.sock.id.0 d.refused_at (after run b) d.returned).seen (request_index p q) (d.refused_by.2 q low)))
+      run.closed.ordered.full (λ q low. has_seen run b (request_index p q) ((returned_grew s.sock.id.0 d.refused_at (after run b) d.returned).seen (request_index p q) (full_found p _ d.refused_at d.refused_by.2 q low)))

@@ -1,5 +1,5 @@
 -- A message is accepted, view by view.
-use Rattle.std.proofs.Common.{◌≡◌, ℕ, suc, ◌+◌, ◌-◌, ◌<◌, true, false, cond, not, eqb, eq-eqb, List, [], ◌∷◌, refl, sym, ap, ◌∙◌, subst, inl, inr, arith}
+use Rattle.std.proofs.Common.{◌≡◌, ℕ, zero, suc, ◌+◌, ◌-◌, ◌<◌, ◌≤◌, true, false, cond, not, eqb, eq-eqb, List, [], ◌∷◌, ◌++◌, refl, sym, ap, ◌∙◌, subst, inl, inr, arith}
 use Rattle.std.specs.List.{filter}
 use mathlib.Core.Option.{some}
 use lib.ListN.{get_elem?}
@@ -25,7 +25,7 @@ use Rattle.sock_rule.specs.SendingOnRequestWords.{MaySwap, filled_for}
 use Rattle.sock_rule.proofs.MarksComeAndGo.{adds_mark, becomes}
 use Rattle.sock_table.specs.NamesStoredAndFound.{HasSeen}
 use Rattle.sock_table.specs.ReferenceAnswers.{Holds}
-use Rattle.write_chain.specs.SendingIntoChain.{Missed, HasRoom, Accepted, IsFirst, FoundTaken}
+use Rattle.write_chain.specs.SendingIntoChain.{Missed, HasRoom, Accepted, IsFirst, FoundTaken, FullNow}
 use Rattle.sock_words.specs.Totals.{total}
 
 -- a seat that held the life of the id claims request `at`, and comes by the views a and b to the exchange
@@ -130,14 +130,14 @@ module _ (p : Plan) (v a b : View) (id slot h k at own : ℕ) (c : Claim) (headi
 pub record Asking (p : Plan) (id at : ℕ) (v w : View) : Type 0 where
   pub marks : Became (socket_id_slot id) v (record v { marks = w.marks }) (Saw (socket_id_version id) ∷ []) []
   pub others : w ≡ record v { marks = w.marks; found = w.found }
-  pub taken : (q : ℕ) → q < at → FoundTaken p q w
+  pub taken : FullNow p at v w
   pub seen : (x : ℕ) → HasSeen x v → HasSeen x w
 
 pub asks_first : (p : Plan) (id : ℕ) (v w : View) → Became (socket_id_slot id) v w (Saw (socket_id_version id) ∷ []) [] → Asking p id 0 v w
 asks_first p id v w b = record {
   marks = subst (λ (x : View). Became (socket_id_slot id) v x (Saw (socket_id_version id) ∷ []) []) b.others b;
   others = b.others ∙ (let e = ap (λ (x : View). x.found) b.others in λ i. record v { marks = w.marks; found = sym e i });
-  taken = λ q lt. absurd (omega arith);
+  taken = record { added = []; found = ap (λ (x : View). x.found) b.others; each = λ q lt. absurd (omega arith) };
   seen = λ x h. (h.0, ap (λ (y : View). get_elem? y.found h.0) b.others ∙ h.1);
 }
 
@@ -145,9 +145,13 @@ pub asks_next : (p : Plan) (id at : ℕ) (v w x : View) → Asking p id at v w �
 asks_next p id at v w x a e = record {
   marks = subst (λ l. Became (socket_id_slot id) v (record v { marks = l }) (Saw (socket_id_version id) ∷ []) []) (sym (ap (λ (y : View). y.marks) e)) a.marks;
   others = e ∙ (ap (λ (y : View). record y { found = request_index p at ∷ w.found }) a.others ∙ (let m = ap (λ (y : View). y.marks) e in let f = ap (λ (y : View). y.found) e in λ i. record v { marks = sym m i; found = sym f i }));
-  taken = λ q lt. mathlib.Core.Logic.dite (native.Mathlib.Decide.ℕ_discrete q at)
-      (λ s. (0, ap (λ (y : View). get_elem? y.found 0) e ∙ ap (λ (z : ℕ). some (request_index p z)) (sym s)))
-      (λ ne. let t = a.taken q (omega arith) in (suc t.0, ap (λ (y : View). get_elem? y.found (suc t.0)) e ∙ t.1));
+  taken = record {
+    added = request_index p at ∷ a.taken.added;
+    found = ap (λ (y : View). y.found) e ∙ ap (λ (l : List ℕ). request_index p at ∷ l) a.taken.found;
+    each = λ q lt. mathlib.Core.Logic.dite (native.Mathlib.Decide.ℕ_discrete q at)
+        (λ s. (0, ap (λ (z : ℕ). some (request_index p z)) (sym s)))
+        (λ ne. let t = a.taken.each q (omega arith) in (suc t.0, t.1));
+  };
   seen = λ n h. (let t = a.seen n h in (suc t.0, ap (λ (y : View). get_elem? y.found (suc t.0)) e ∙ t.1));
 }
 
@@ -156,9 +160,23 @@ pub asks_other : (p : Plan) (id : ℕ) (v w x : View) (q : ℕ) → Asking p id 
 asks_other p id v w x q a e = record {
   marks = subst (λ l. Became (socket_id_slot id) v (record v { marks = l }) (Saw (socket_id_version id) ∷ []) []) (sym (ap (λ (y : View). y.marks) e)) a.marks;
   others = e ∙ (ap (λ (y : View). record y { found = request_index p q ∷ w.found }) a.others ∙ (let m = ap (λ (y : View). y.marks) e in let f = ap (λ (y : View). y.found) e in λ i. record v { marks = sym m i; found = sym f i }));
-  taken = λ q lt. absurd (omega arith);
+  taken = record { added = request_index p q ∷ a.taken.added; found = ap (λ (y : View). y.found) e ∙ ap (λ (l : List ℕ). request_index p q ∷ l) a.taken.found; each = λ j lt. absurd (omega arith) };
   seen = λ n h. (let t = a.seen n h in (suc t.0, ap (λ (y : View). get_elem? y.found (suc t.0)) e ∙ t.1));
 }
+
+-- all were asked for
+pub full_now : (p : Plan) (at : ℕ) (v w : View) → FullNow p at v w → p.requests ≤ at → FullNow p p.requests v w
+full_now p at v w a all = record { added = a.added; found = a.found; each = λ q lt. a.each q (omega arith) }
+
+-- what stands in front of a list stands in it
+in_front : (xs ys : List ℕ) (n x : ℕ) → get_elem? xs n ≡ some x → get_elem? (xs ++ ys) n ≡ some x
+in_front [] ys n x e = cc e
+in_front (z ∷ xs) ys zero x e = e
+in_front (z ∷ xs) ys (suc n) x e = in_front xs ys n x e
+
+-- each was found taken by then
+pub full_found : (p : Plan) (v w : View) → FullNow p p.requests v w → (q : ℕ) → q < p.requests → FoundTaken p q w.found
+full_found p v w a q low = let t = a.each q low in (t.0, ap (λ (l : List ℕ). get_elem? l t.0) a.found ∙ in_front a.added v.found t.0 (request_index p q) t.1)
 
 pub false_true : false ≡ true → ⊥
 false_true e = let n : ℕ ≡ ⊥ = ap (λ b. cond b ⊥ ℕ) e in subst (λ (x : Type 0). x) n 0

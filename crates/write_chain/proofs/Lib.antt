@@ -1,5 +1,6 @@
 pub mod Accepting
 pub mod NotingWhileWriting
+pub mod Turning
 pub mod Faulting
 pub mod WriterThroughSteps
 pub mod SeatOnceAccepted

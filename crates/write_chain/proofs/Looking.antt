@@ -1,5 +1,5 @@
 -- What a look finds, and what becomes of a socket whose link failed.
-use Rattle.std.proofs.Common.{◌≡◌, ◌≢◌, ℕ, ◌+◌, ◌-◌, ◌%◌, ◌<◌, zero, suc, Bool, true, false, not, cond, eqb, eqb-true, eq-eqb, ltb, ltb-true, min, List, [], ◌∷◌, ◌++◌, length, take, refl, sym, ap, ◌∙◌, subst, arith}
+use Rattle.std.proofs.Common.{◌≡◌, ◌≢◌, ℕ, ◌+◌, ◌-◌, ◌%◌, ◌<◌, zero, suc, Bool, true, false, not, cond, eqb, eqb-true, eq-eqb, ltb, ltb-true, min, List, [], ◌∷◌, ◌++◌, length, take, refl, sym, ap, ◌∙◌, subst, inl, inr, arith}
 use Rattle.std.specs.Prelude.{◌↔◌, IsTrue, Ok, Err, IfOk, IfErr}
 use Rattle.std.specs.declared.result.Result.{Result}
 use Rattle.seat_programs.specs.BufferParts.{room_of_part, part}
@@ -28,10 +28,12 @@ use Rattle.sock_table.specs.ReferenceAnswers.{FailedBy, FoundFailed}
 use Rattle.sock_table.specs.declared.refs.Already.{Already}
 use Rattle.write_chain.specs.declared.right.InHand.{InHand}
 use Rattle.write_chain.specs.NotingWhileWriting.{saw, faulted, Faulted, Noted, nothing, finding, failing, Met_by, Wrote}
-use Rattle.write_chain.specs.WritingRightInHand.{HasPart, IsClean, FoundDead}
+use Rattle.std.specs.Prelude.{◌⊎◌}
+use Rattle.write_chain.specs.LinkCalls.{NoneFailed}
+use Rattle.write_chain.specs.WritingRightInHand.{HasPart, FoundDead}
 use Rattle.write_chain.proofs.Faulting.{became_faults}
 use Rattle.write_chain.proofs.NotingWhileWriting.{found_it}
-use Rattle.write_chain.proofs.WriterThroughSteps.{part_noted, part_clean}
+use Rattle.write_chain.proofs.WriterThroughSteps.{HasClean, part_noted, part_clean}
 
 pub false_true : false ≡ true → ⊥
 false_true e = let n : ℕ ≡ ⊥ = ap (λ b. cond b ⊥ ℕ) e in subst (λ (x : Type 0). x) n 0
@@ -63,7 +65,7 @@ module _ {O : Type 0} {g : Ghosts O} {p : Plan} {ways : List (List ℕ)} {id las
   noted_saw : {L : ℕ → Type 0} → Noted g.state L (socket_id_version id) (Saw (vref_version found) ∷ [])
   noted_saw {L} = found_it (Saw (vref_version found)) (saw (vref_version found))
 
-  pub live : vref_version found % 2 ≡ 0 → IsClean p ways id last hand n
+  pub live : vref_version found % 2 ≡ 0 → HasClean p ways id last hand n
   live even = part_clean {L = λ k. ⊥} hand m n (looked slot found m.0) (Saw (vref_version found) ∷ []) noted_saw became_looked (λ t. h.0.noted (became_faults hand.link (socket_id_slot id) m.0 (looked slot found m.0) _ _ became_looked refl t)) h (l.1 even)
 
   odd_is : vref_version found % 2 ≢ 0 → vref_version found ≡ socket_id_version id + 1
@@ -80,6 +82,14 @@ module _ {O : Type 0} {g : Ghosts O} {p : Plan} {ways : List (List ℕ)} {id las
   pub dead_again : FoundDead id m.0 → vref_version found % 2 ≢ 0
   dead_again d even = let s = l.0.saw (socket_id_version id + 1) (subst (λ (j : ℕ). 0 < marks_of (is_saw (socket_id_version id + 1)) j m.0) (sym at) d) in
       let a = l.0.held (socket_id_version id) (subst (λ (j : ℕ). 0 < marks_of (is_hold (socket_id_version id)) j m.0) (sym at) h.0.writer.holds.held) in absurd (omega arith)
+
+  -- so none failed before a look that finds it live
+  pub still_none : vref_version found % 2 ≡ 0 → NoneFailed hand.calls.list
+  still_none even = by_calls h.2
+    where
+      by_calls : NoneFailed hand.calls.list ⊎ FoundDead id m.0 → NoneFailed hand.calls.list
+      by_calls (inl none_) = none_
+      by_calls (inr d) = absurd (dead_again d even)
 
   pub looked_wrote : Wrote g.state id m.0 n.0
   looked_wrote = record {

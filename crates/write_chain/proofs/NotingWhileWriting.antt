@@ -91,9 +91,15 @@ module _ {O : Type 0} {state : O → OutState} {id : ℕ} where
     stores = b.stores ∙ ap (noted record { place = place_index p msg.label.place; word = place_word true b.link b.position }) same;
     heading = b.heading;
     drops = b.drops ∙ ap (λ (l : List Heading). b.heading ∷ l) kept;
-    place_is = b.place_is;
-    attempt_is = b.attempt_is;
+    label_is = b.label_is;
     owner_is = b.owner_is;
+    right = b.right;
+    one = b.one;
+    heading_is = b.heading_is;
+    before = b.before;
+    begun = b.begun;
+    sent = b.sent;
+    bytes = b.bytes;
     wrote = subst (λ (l : List (List StoredWord)). Wrote state id u (record w { stores = l; drops = u.drops })) same (subst (λ (d : List Heading). Wrote state id u (record w { stores = v.stores; drops = d })) kept (wrote_then u v (record w { stores = v.stores; drops = v.drops }) a b.wrote));
   }
 

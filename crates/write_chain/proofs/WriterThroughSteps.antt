@@ -1,5 +1,5 @@
 -- What a writer has stays through the steps that it makes.
-use Rattle.std.proofs.Common.{◌≡◌, ◌≢◌, ℕ, zero, suc, ◌+◌, ◌*◌, ◌<◌, inl, inr, Bool, true, false, cond, eqb, eq-eqb, ne_eqb, not, List, [], ◌∷◌, ◌++◌, append-nil, append_assoc, refl, sym, ap, ◌∙◌, subst, arith}
+use Rattle.std.proofs.Common.{◌≡◌, ◌≢◌, ℕ, zero, suc, ◌+◌, ◌*◌, ◌<◌, ◌≤◌, inl, inr, Bool, true, false, cond, eqb, eq-eqb, ne_eqb, not, List, [], ◌∷◌, ◌++◌, append-nil, append_assoc, refl, sym, ap, ◌∙◌, subst, arith}
 use Rattle.std.specs.List.{filter}
 use Rattle.atomic_table.specs.Table.{Me, rest}
 use Rattle.sock_io.specs.declared.link.Out.{Ghosts}
@@ -36,10 +36,17 @@ use Rattle.sock_table.proofs.QuietBetweenCalls.{rests_on, rests_between}
 use Rattle.write_chain.specs.declared.right.InHand.{InHand}
 use Rattle.write_chain.specs.declared.right.LinkInHand.{LinkInHand}
 use Rattle.write_chain.specs.NotingWhileWriting.{met, Noted, Wrote}
-use Rattle.write_chain.specs.Puts.{WentOn}
+use Rattle.write_chain.specs.Puts.{WentOn, Called}
+use Rattle.std.specs.Prelude.{◌⊎◌}
+use Rattle.sock_model.specs.MarkWeights.{is_saw}
+use Rattle.sock_model.specs.SlotRows.{marks_of}
+use Rattle.write_chain.specs.declared.right.LinkCall.{LinkCall}
+use Rattle.write_chain.specs.declared.right.LinkCall.TheVariants as call
+use Rattle.write_chain.specs.LinkCalls.{NoneFailed, MayPut, IsTurn}
+use Rattle.write_chain.proofs.Turning.{turn_begun, turn_looked}
 use Rattle.write_chain.specs.declared.right.Doing.{Doing}
 use Rattle.write_chain.specs.declared.right.Doing.TheVariants as doing
-use Rattle.write_chain.specs.WritingRightInHand.{IsWriter, Stands, HasLink, HasInHand, IsPart, HasPart, IsClean, HasWhole, GaveUp, IsLast}
+use Rattle.write_chain.specs.WritingRightInHand.{IsWriter, Stands, HasLink, HasInHand, IsPart, JustLooked, FoundDead, HasRest, HasPart, IsClean, HasWhole, GaveUp, IsLast}
 use Rattle.write_chain.proofs.Faulting.{found_marks, found_noted, found_became}
 use Rattle.write_chain.proofs.NotingWhileWriting.{noted_quiet, found_it, wrote_notes}
 
@@ -93,24 +100,55 @@ noted_in_hand : (n i k : ℕ) (v : View) → (0 < faults_of k v → 0 < n) → 0
 noted_in_hand zero i k v known some_ = known some_
 noted_in_hand (suc n) i k v known some_ = omega arith
 
+-- ## In hand
+
+-- a look before found the life live
+abbrev pub HasClean : {O : Type 0} {g : Ghosts O} → Plan → List (List ℕ) → ℕ → ℕ → InHand O g → Me (SockHome O g) View → Type 0
+HasClean p ways id last hand m = (h : HasInHand p ways id last hand m) × (h.right_is.clean ≡ true)
+
+module _ {O : Type 0} {g : Ghosts O} where
+  none_noted : (id : ℕ) (hand : InHand O g) (m n : Me (SockHome O g) View) (notes : List Mark) → Became (socket_id_slot id) m.0 n.0 notes [] → NoneFailed hand.calls.list ⊎ FoundDead id m.0 → NoneFailed hand.calls.list ⊎ FoundDead id n.0
+  none_noted id hand m n notes b (inl none_) = inl none_
+  none_noted id hand m n notes b (inr dead) = inr (let x = b.here (is_saw (socket_id_version id + 1)) in let y : 0 < marks_of (is_saw (socket_id_version id + 1)) (socket_id_slot id) m.0 = dead in omega arith)
+
+  turn_now : (old new : InHand O g) (live : Bool) → Called (call.Looked live) old new → IsTurn g.state old.came.list old.home.out old.calls.list → IsTurn g.state old.came.list old.home.out new.calls.list
+  turn_now old new live c t = subst (λ (cs : List LinkCall). IsTurn g.state old.came.list old.home.out cs) (sym c.calls) (turn_looked g.state old.came.list live old.home.out old.calls.list t)
+
+  none_looked : {D : Type 0} (old new : InHand O g) (live : Bool) → Called (call.Looked live) old new → NoneFailed old.calls.list ⊎ D → NoneFailed new.calls.list ⊎ D
+  none_looked old new live c (inl none_) = inl (subst NoneFailed (sym c.calls) none_)
+  none_looked old new live c (inr dead) = inr dead
+
 module _ {O : Type 0} {g : Ghosts O} {p : Plan} {ways : List (List ℕ)} {id last : ℕ} where
   -- the right's sign that a look found the life live is this one now, and the rest of what is in hand stays
   abbrev stays_in_hand : (hand : InHand O g) (m n : Me (SockHome O g) View) (h : HasInHand p ways id last hand m) (clean : Bool) → IsWriter p id last hand.link (record h.right_is { clean = clean }) n.0 → (0 < faults_of hand.link n.0 → 0 < (g.state hand.home.out).faults) → n.1 ≡ m.1 → HasInHand p ways id last hand n
-  stays_in_hand hand m n h clean writer faults slots = record { right_is = record h.right_is { clean = clean }; writer = writer; has = record { away = h.has.away; link_in = h.has.link_in; places_are = h.has.places_are; own = h.has.own; way = h.has.way; unfinished = h.has.unfinished }; stage_is = h.stage_is; ticket = h.ticket; taken = h.taken; place_is = h.place_is; attempt_is = h.attempt_is; owner_is = h.owner_is; place_in = h.place_in; begun = h.begun; bytes_are = h.bytes_are; took = h.took; noted = faults; few = h.few; slots = slots ∙ h.slots }
+  stays_in_hand hand m n h clean writer faults slots = record { right_is = record h.right_is { clean = clean }; writer = writer; has = record { away = h.has.away; link_in = h.has.link_in; places_are = h.has.places_are; own = h.has.own; way = h.has.way; unfinished = h.has.unfinished }; stage_is = h.stage_is; ticket = h.ticket; taken = h.taken; label_is = h.label_is; owner_is = h.owner_is; place_in = h.place_in; begun = h.begun; bytes_are = h.bytes_are; took = h.took; noted = faults; few = h.few; turn = h.turn; slots = slots ∙ h.slots }
 
   -- where notes come
+  pub rest_noted : {L : ℕ → Type 0} (hand : InHand O g) (m n : Me (SockHome O g) View) (notes : List Mark) → Noted g.state L (socket_id_version id) notes → Became (socket_id_slot id) m.0 n.0 notes [] → n.1 ≡ m.1 → (0 < faults_of hand.link n.0 → 0 < (g.state hand.home.out).faults) → HasRest p ways id last hand m → HasRest p ways id last hand n
+  rest_noted hand m n notes noted b slots faults h = (stays_in_hand hand m n h.0 h.0.right_is.clean (writer_noted h.0.writer notes noted b) faults slots, h.1)
+
   pub part_noted : {L : ℕ → Type 0} (hand : InHand O g) (m n : Me (SockHome O g) View) (notes : List Mark) → Noted g.state L (socket_id_version id) notes → Became (socket_id_slot id) m.0 n.0 notes [] → n.1 ≡ m.1 → (0 < faults_of hand.link n.0 → 0 < (g.state hand.home.out).faults) → HasPart p ways id last hand m → HasPart p ways id last hand n
-  part_noted hand m n notes noted b slots faults h = (stays_in_hand hand m n h.0 h.0.right_is.clean (writer_noted h.0.writer notes noted b) faults slots, h.1)
+  part_noted hand m n notes noted b slots faults h = (stays_in_hand hand m n h.0 h.0.right_is.clean (writer_noted h.0.writer notes noted b) faults slots, h.1, none_noted id hand m n notes b h.2)
 
   -- where the look found the life live
   pub part_clean : {L : ℕ → Type 0} (hand : InHand O g) (m n : Me (SockHome O g) View) (v : View) (notes : List Mark) → Noted g.state L (socket_id_version id) notes → Became (socket_id_slot id) m.0 v notes [] → (0 < faults_of hand.link v → 0 < (g.state hand.home.out).faults) → (h : HasPart p ways id last hand m)
-      → n ≡ (with_right v (record h.0.right_is { clean = true }), m.1) → IsClean p ways id last hand n
+      → n ≡ (with_right v (record h.0.right_is { clean = true }), m.1) → HasClean p ways id last hand n
   part_clean hand m n v notes noted b faults h e = let w = writer_noted h.0.writer notes noted b in let view : n.0 ≡ with_right v (record h.0.right_is { clean = true }) = ap (λ (q : Me (SockHome O g) View). q.0) e in
       (stays_in_hand hand m n h.0 true (writer_on w last (record h.0.right_is { clean = true }) refl w.last_is w.last_ticket view) (λ t. faults (subst (λ (y : View). 0 < faults_of hand.link y) view t)) (ap (λ (q : Me (SockHome O g) View). q.1) e), refl)
 
+  -- a look was made
+  abbrev in_calls : (old new : InHand O g) (m : Me (SockHome O g) View) (numbered : old.label.attempt ≤ 6) → IsTurn g.state old.came.list old.home.out new.calls.list → HasInHand p ways id last old m → HasInHand p ways id last (record old { calls = new.calls; numbered = numbered }) m
+  in_calls old new m numbered turn h = record { right_is = h.right_is; writer = h.writer; has = h.has; stage_is = h.stage_is; ticket = h.ticket; taken = h.taken; label_is = h.label_is; owner_is = h.owner_is; place_in = h.place_in; begun = h.begun; bytes_are = h.bytes_are; took = h.took; noted = h.noted; few = h.few; turn = turn; slots = h.slots }
+
+  pub part_looked : (old new : InHand O g) (m : Me (SockHome O g) View) (live : Bool) → JustLooked old new → Called (call.Looked live) old new → HasPart p ways id last old m → HasPart p ways id last new m
+  part_looked old new m live e c h = subst (λ (y : InHand O g). HasPart p ways id last y m) (sym e.1) (in_calls old new m e.0 (turn_now old new live c h.0.turn) h.0, h.1, none_looked old new live c h.2)
+
+  pub clean_looked : (old new : InHand O g) (m : Me (SockHome O g) View) → JustLooked old new → Called (call.Looked true) old new → NoneFailed old.calls.list → HasClean p ways id last old m → IsClean p ways id last new m
+  clean_looked old new m e c none_ h = subst (λ (y : InHand O g). IsClean p ways id last y m) (sym e.1) (in_calls old new m e.0 (turn_now old new true c h.0.turn) h.0, h.1, subst MayPut (sym c.calls) (tt, none_))
+
   -- a put was made, or the link was asked
-  went_on : (old new : InHand O g) (taken : List ℕ) (m : Me (SockHome O g) View) → WentOn old new taken → (h : HasInHand p ways id last old m) → (h' : HasInHand p ways id last new m) × (h'.right_is ≡ h.right_is) × (h'.begun ≡ h.begun ++ taken)
-  went_on old new taken m w h = let k = w.others.0 in let t = w.others.1 in let l = w.others.2 in (
+  went_on : (old new : InHand O g) (taken : List ℕ) (m : Me (SockHome O g) View) → WentOn old new taken → IsTurn g.state new.came.list new.home.out new.calls.list → (h : HasInHand p ways id last old m) → (h' : HasInHand p ways id last new m) × (h'.right_is ≡ h.right_is) × (h'.begun ≡ h.begun ++ taken)
+  went_on old new taken m w turn h = let k = w.others.0 in let t = w.others.1 in let l = w.others.2 in (
     record {
       right_is = h.right_is;
       writer = subst (λ (y : ℕ). IsWriter p id last y h.right_is m.0) (sym k) h.writer;
@@ -125,8 +163,7 @@ module _ {O : Type 0} {g : Ghosts O} {p : Plan} {ways : List (List ℕ)} {id las
       stage_is = h.stage_is ∙ ap (λ (y : Ticket). Writes y.0) (sym t);
       ticket = subst (λ (y : Ticket). IsTicket p y.0) (sym t) h.ticket;
       taken = h.taken;
-      place_is = h.place_is ∙ ap (λ (y : Label). y.place) (sym l);
-      attempt_is = h.attempt_is ∙ ap (λ (y : Label). y.attempt) (sym l);
+      label_is = h.label_is ∙ sym l;
       owner_is = h.owner_is ∙ sym w.others.3;
       place_in = subst (λ (y : Label). y.place < 8 * p.operations) (sym l) h.place_in;
       begun = h.begun ++ taken;
@@ -134,22 +171,23 @@ module _ {O : Type 0} {g : Ghosts O} {p : Plan} {ways : List (List ℕ)} {id las
       took = w.took ∙ (ap (λ y. y ++ taken) h.took ∙ append_assoc h.right_is.sent h.begun taken);
       noted = λ t. (let a = h.noted (subst (λ (y : ℕ). 0 < faults_of y m.0) k t) in let b = w.later in omega arith);
       few = subst (λ (n : ℕ). n < 4294967295) (sym w.next) h.few;
+      turn = turn;
       slots = h.slots ∙ (λ i. (ticket_request (sym t i).0, Empty) ∷ (p.requests + sym k i, Empty) ∷ []);
     },
     refl,
     refl,
   )
 
-  pub clean_put : (old new : InHand O g) (taken : List ℕ) (m : Me (SockHome O g) View) → WentOn old new taken → IsClean p ways id last old m → IsClean p ways id last new m
-  clean_put old new taken m w h = let r = went_on old new taken m w h.0 in (r.0, ap (λ (y : Right). y.clean) r.1 ∙ h.1)
+  pub clean_put : (old new : InHand O g) (taken : List ℕ) (m : Me (SockHome O g) View) → WentOn old new taken → IsTurn g.state new.came.list new.home.out new.calls.list → IsClean p ways id last old m → HasClean p ways id last new m
+  clean_put old new taken m w turn h = let r = went_on old new taken m w turn h.0 in (r.0, ap (λ (y : Right). y.clean) r.1 ∙ h.1)
 
   -- the link was asked
-  pub part_asked : (old new : InHand O g) (m : Me (SockHome O g) View) → WentOn old new [] → HasPart p ways id last old m → HasPart p ways id last new m
-  part_asked old new m w h = let r = went_on old new [] m w h.0 in (r.0, by_part h.1)
+  pub part_asked : (old new : InHand O g) (m : Me (SockHome O g) View) → WentOn old new [] → IsTurn g.state new.came.list new.home.out new.calls.list → HasPart p ways id last old m → HasRest p ways id last new m
+  part_asked old new m w turn h = let r = went_on old new [] m w turn h.0 in (r.0, by_part h.1)
     where
-      by_part : IsPart h.0.right_is h.0.begun (outgoing_of old.bytes).left → IsPart (went_on old new [] m w h.0).0.right_is (went_on old new [] m w h.0).0.begun (outgoing_of new.bytes).left
-      by_part (inl none_) = inl ((went_on old new [] m w h.0).2 ∙ (append-nil h.0.begun ∙ none_))
-      by_part (inr more) = inr (ap (λ (y : Right). y.clean) (went_on old new [] m w h.0).1 ∙ more.0, λ e. more.1 (w.left ∙ e))
+      by_part : IsPart h.0.right_is h.0.begun (outgoing_of old.bytes).left → IsPart (went_on old new [] m w turn h.0).0.right_is (went_on old new [] m w turn h.0).0.begun (outgoing_of new.bytes).left
+      by_part (inl none_) = inl ((went_on old new [] m w turn h.0).2 ∙ (append-nil h.0.begun ∙ none_))
+      by_part (inr more) = inr (ap (λ (y : Right). y.clean) (went_on old new [] m w turn h.0).1 ∙ more.0, λ e. more.1 (w.left ∙ e))
 
   -- ## Moves
 
@@ -187,8 +225,8 @@ module _ {O : Type 0} {g : Ghosts O} {p : Plan} {ways : List (List ℕ)} {id las
   -- M2
   pub letter_taken : (hand : LinkInHand O g) (new : InHand O g) (now : ℕ) (msg : Letter) (m n : Me (SockHome O g) View) (h : HasLink p ways id last (Writes now) [] hand m) → IsTicket p now → msg.label.place < 8 * p.operations → h.right_is.places < 4294967295
       → n ≡ (with_right m.0 (taken_right h.right_is (heading_of msg) (parcel_of msg.bytes).bytes), (ticket_request now, Empty) ∷ m.1)
-      → new.link ≡ hand.link → new.home ≡ hand.home → new.now.0 ≡ now → (outgoing_of new.bytes).left ≡ (parcel_of msg.bytes).bytes → new.label ≡ msg.label → new.owner ≡ msg.owner → HasPart p ways id last new n
-  letter_taken hand new now msg m n h ticket label few e same_link same_home same_now left same_label same_owner = let x' : Right = taken_right h.right_is (heading_of msg) (parcel_of msg.bytes).bytes in let its : LinkHome O g → ℕ = λ y. y.next in (
+      → new.link ≡ hand.link → new.home ≡ hand.home → new.now.0 ≡ now → (outgoing_of new.bytes).left ≡ (parcel_of msg.bytes).bytes → new.label ≡ msg.label → new.owner ≡ msg.owner → new.came.list ≡ new.home.out ∷ [] → new.calls.list ≡ [] → HasPart p ways id last new n
+  letter_taken hand new now msg m n h ticket label few e same_link same_home same_now left same_label same_owner came none_ = let x' : Right = taken_right h.right_is (heading_of msg) (parcel_of msg.bytes).bytes in let its : LinkHome O g → ℕ = λ y. y.next in (
     record {
       right_is = taken_right h.right_is (heading_of msg) (parcel_of msg.bytes).bytes;
       writer = subst (λ (y : ℕ). IsWriter p id last y (taken_right h.right_is (heading_of msg) (parcel_of msg.bytes).bytes) n.0) (sym same_link) (writer_on h.writer last x' refl h.writer.last_is h.writer.last_ticket (ap (λ (q : Me (SockHome O g) View). q.0) e));
@@ -203,8 +241,7 @@ module _ {O : Type 0} {g : Ghosts O} {p : Plan} {ways : List (List ℕ)} {id las
       stage_is = h.stage_is ∙ ap (λ (y : ℕ). Writes y) (sym same_now);
       ticket = subst (IsTicket p) (sym same_now) ticket;
       taken = refl;
-      place_is = ap (λ (y : Label). y.place) (sym same_label);
-      attempt_is = ap (λ (y : Label). y.attempt) (sym same_label);
+      label_is = sym same_label;
       owner_is = sym same_owner;
       place_in = subst (λ (y : Label). y.place < 8 * p.operations) (sym same_label) label;
       begun = [];
@@ -212,9 +249,11 @@ module _ {O : Type 0} {g : Ghosts O} {p : Plan} {ways : List (List ℕ)} {id las
       took = ap (λ (y : LinkHome O g). y.took.list) same_home ∙ (h.took ∙ sym (append-nil h.right_is.sent));
       noted = λ t. subst (λ (y : LinkHome O g). 0 < (g.state y.out).faults) (sym same_home) (h.noted (subst (λ (k : ℕ). 0 < faults_of k m.0) same_link (subst (λ (y : View). 0 < faults_of new.link y) (ap (λ (q : Me (SockHome O g) View). q.0) e) t)));
       few = subst (λ (y : ℕ). y < 4294967295) (sym (ap (λ (y : LinkHome O g). y.next) same_home ∙ h.has.places_are)) few;
+      turn = subst (λ (cs : List LinkCall). IsTurn g.state new.came.list new.home.out cs) (sym none_) (turn_begun g.state new.came.list new.home.out came);
       slots = ap (λ (q : Me (SockHome O g) View). q.1) e ∙ ((λ i. (ticket_request now, Empty) ∷ h.slots i) ∙ (λ i. (ticket_request (sym same_now i), Empty) ∷ (p.requests + sym same_link i, Empty) ∷ []));
     },
     inl refl,
+    inl (subst NoneFailed (sym none_) tt),
   )
 
   -- P1

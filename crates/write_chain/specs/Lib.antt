@@ -2,6 +2,7 @@ pub mod NotingWhileWriting
 pub mod SendingIntoChain
 pub mod WritingRightInHand
 pub mod KeepingOnWriting
+pub mod LinkCalls
 pub mod Puts
 pub mod ReadyToSend
 pub use Rattle.message_parts

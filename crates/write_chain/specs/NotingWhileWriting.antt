@@ -1,5 +1,8 @@
 -- What a seat notes of a life while it writes its link.
-use Rattle.std.specs.Prelude.{◌≡◌, ℕ, ◌+◌, ◌<◌, true, false, List, [], ◌∷◌}
+use Rattle.std.specs.Prelude.{◌≡◌, ℕ, ◌+◌, ◌<◌, true, false, List, [], ◌∷◌, ◌++◌}
+use Rattle.message_parts.specs.Parcels.{outgoing_of}
+use Rattle.sock_model.specs.declared.chain.Right.{Right}
+use Rattle.sock_rule.specs.HoldingWriteRight.{Rights}
 use Rattle.sock_io.specs.LinkHalves.{OutState}
 use Rattle.sock_io.specs.FaultCauses.{Rose}
 use Rattle.sock_words.specs.declared.plain.Plan.{Plan}
@@ -49,7 +52,11 @@ pub record Wrote {O : Type 0} (state : O → OutState) (id : ℕ) (v w : View) :
   pub noted : Noted state (Met_by id w) (socket_id_version id) notes
   pub became : Became (socket_id_slot id) v (record w { rights = v.rights }) notes []
 
--- a seat dropped this message, of the link of the life of this id: it stored the word of its place index with the dropped bit, and noted that, and what stands with the message; beside that it only wrote
+-- the seat's one right tells still which message it had taken, and what the link had taken by then
+abbrev pub KeepsMessage : View → View → Type 0
+KeepsMessage v w = (r : Right) → Rights r v → (x : Right) × Rights x w × (x.heading ≡ r.heading) × (x.bytes ≡ r.bytes) × (x.sent ≡ r.sent)
+
+-- a seat dropped this message, of the link of the life of this id: it stored the word of its place index with the dropped bit, and noted that, and what stands with the message; beside that it only wrote. Its right has the accepted message still, whose label and owner these are, and whose bytes are those that the link took of it last, and those that are left.
 pub record WroteDrop {O : Type 0} (state : O → OutState) (p : Plan) (id : ℕ) (msg : Undelivered) (v w : View) : Type 0 where
   pub link : ℕ
   pub position : ℕ
@@ -59,7 +66,13 @@ pub record WroteDrop {O : Type 0} (state : O → OutState) (p : Plan) (id : ℕ)
   pub stores : w.stores ≡ noted record { place = place_index p msg.label.place; word = place_word true link position } v.stores
   pub heading : Heading
   pub drops : w.drops ≡ heading ∷ v.drops
-  pub place_is : heading.label.place ≡ msg.label.place
-  pub attempt_is : heading.label.attempt ≡ msg.label.attempt
+  pub label_is : heading.label ≡ msg.label
   pub owner_is : heading.owner ≡ msg.owner
+  pub right : Right
+  pub one : Rights right w
+  pub heading_is : right.heading ≡ heading
+  pub before : List ℕ
+  pub begun : List ℕ
+  pub sent : right.sent ≡ before ++ begun
+  pub bytes : right.bytes ≡ begun ++ (outgoing_of msg.left).left
   pub wrote : Wrote state id v (record w { stores = v.stores; drops = v.drops })

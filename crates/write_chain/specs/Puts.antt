@@ -1,10 +1,11 @@
 -- How far a put comes.
-use Rattle.std.specs.Prelude.{◌≡◌, ℕ, ◌++◌, ◌≤◌, List}
+use Rattle.std.specs.Prelude.{◌≡◌, ℕ, ◌++◌, ◌≤◌, List, ◌∷◌}
 use Rattle.sock_io.specs.declared.link.Out.{Ghosts}
 use Rattle.seat_programs.specs.BufferParts.{part}
 use Rattle.message_parts.specs.Parcels.{outgoing_of}
 use Rattle.message_parts.specs.declared.parcel.OutgoingParcel.{OutgoingParcel}
 use Rattle.write_chain.specs.declared.right.InHand.{InHand}
+use Rattle.write_chain.specs.declared.right.LinkCall.{LinkCall}
 
 -- the bytes of it that are put next
 abbrev pub next_of : OutgoingParcel → List ℕ
@@ -20,3 +21,8 @@ pub record WentOn {O : Type 0} {g : Ghosts O} (old new : InHand O g) (taken : Li
   pub finished : (g.state new.home.out).finished ≡ (g.state old.home.out).finished
   pub later : (g.state old.home.out).faults ≤ (g.state new.home.out).faults
   pub others : (new.link ≡ old.link) × (new.now ≡ old.now) × (new.label ≡ old.label) × (new.owner ≡ old.owner)
+
+-- one call more was made of the message in hand, which came into hand with its link as before
+pub record Called {O : Type 0} {g : Ghosts O} (call : LinkCall) (old new : InHand O g) : Type 0 where
+  pub calls : new.calls.list ≡ call ∷ old.calls.list
+  pub came : new.came.list ≡ old.came.list

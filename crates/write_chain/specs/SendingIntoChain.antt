@@ -1,5 +1,5 @@
 -- What a seat has before it sends a message, and what becomes of the message.
-use Rattle.std.specs.Prelude.{◌≡◌, ◌⊎◌, ℕ, ◌+◌, ◌<◌, true, false, List, [], ◌∷◌, length}
+use Rattle.std.specs.Prelude.{◌≡◌, ◌⊎◌, ℕ, ◌+◌, ◌<◌, true, false, List, [], ◌∷◌, ◌++◌, length}
 use mathlib.Core.Option.{some}
 use lib.ListN.{get_elem?}
 use Rattle.sock_io.specs.declared.link.Out.{Ghosts}
@@ -79,14 +79,20 @@ StartedWith notes p sock heading bytes (started.Right r) v w = (r.sock ≡ sock)
 abbrev pub StartedBy : {O : Type 0} {g : Ghosts O} → Plan → SockRef → Heading → List ℕ → Started O g → View → View → Type 0
 StartedBy p sock heading bytes s v w = StartedWith (Saw (socket_id_version sock.id.0) ∷ []) p sock heading bytes s v w
 
--- the seat found the request q taken
-abbrev pub FoundTaken : Plan → ℕ → View → Type 0
-FoundTaken p q w = (n : ℕ) × (get_elem? w.found n ≡ some (request_index p q))
+-- the request q is among those that were found taken
+abbrev pub FoundTaken : Plan → ℕ → List ℕ → Type 0
+FoundTaken p q found = (n : ℕ) × (get_elem? found n ≡ some (request_index p q))
 
--- the order is as it was, and all comes back
+-- what the seat found for good since v are these places, among which is each request below `at`
+pub record FullNow (p : Plan) (at : ℕ) (v w : View) : Type 0 where
+  pub added : List ℕ
+  pub found : w.found ≡ added ++ v.found
+  pub each : (q : ℕ) → q < at → FoundTaken p q added
+
+-- the order is as it was, and all comes back: this call's look found the life failed, or it found each request taken
 abbrev pub RefusedBy : Plan → SockRef → Letter → Refused → View → View → Type 0
 RefusedBy p sock msg (refused.Failed s m found) v w = (s ≡ sock) × (m ≡ msg) × (vref_version found.0 ≡ socket_id_version sock.id.0 + 1) × Became (socket_id_slot sock.id.0) v w (Saw (vref_version found.0) ∷ []) []
-RefusedBy p sock msg (refused.Full s m) v w = (s ≡ sock) × (m ≡ msg) × ((q : ℕ) → q < p.requests → FoundTaken p q w) × (w.lists ≡ v.lists) × (w.rights ≡ v.rights) × (w.claims ≡ []) × (w.loose ≡ []) × Became (socket_id_slot sock.id.0) v (record v { marks = w.marks }) (Saw (socket_id_version sock.id.0) ∷ []) [] × (w ≡ record v { marks = w.marks; found = w.found }) × ((x : ℕ) → HasSeen x v → HasSeen x w)
+RefusedBy p sock msg (refused.Full s m) v w = (s ≡ sock) × (m ≡ msg) × FullNow p p.requests v w × (w.lists ≡ v.lists) × (w.rights ≡ v.rights) × (w.claims ≡ []) × (w.loose ≡ []) × Became (socket_id_slot sock.id.0) v (record v { marks = w.marks }) (Saw (socket_id_version sock.id.0) ∷ []) [] × (w ≡ record v { marks = w.marks; found = w.found }) × ((x : ℕ) → HasSeen x v → HasSeen x w)
 
 -- one request was found taken, or none was asked for
 abbrev pub Missed : {S : Type 0} → Plan → Me S View → Me S View → Type 0

@@ -1,5 +1,6 @@
 -- What whoever has the right to write a link has in hand.
-use Rattle.std.specs.Prelude.{◌≡◌, ◌≢◌, ℕ, ◌+◌, ◌*◌, ◌<◌, ◌⊎◌, true, false, List, [], ◌∷◌, ◌++◌}
+use Rattle.std.specs.Prelude.{◌≡◌, ◌≢◌, ℕ, ◌+◌, ◌*◌, ◌<◌, ◌≤◌, ◌⊎◌, true, false, List, [], ◌∷◌, ◌++◌}
+use Rattle.sock_io.specs.declared.link.Put.{Put}
 use Rattle.atomic_table.specs.Table.{Me}
 use Rattle.sock_io.specs.declared.link.Out.{Ghosts}
 use Rattle.sock_words.specs.declared.plain.Plan.{Plan}
@@ -21,6 +22,9 @@ use Rattle.sock_rule.specs.declared.homes.SockHome.{SockHome}
 use Rattle.sock_rule.specs.declared.homes.SockHome.TheVariants.{Empty}
 use Rattle.sock_table.specs.ReferenceCalls.{IsBetween, Rests}
 use Rattle.sock_table.specs.ReferenceAnswers.{Holds}
+use Rattle.write_chain.specs.LinkCalls.{MayPut, NoneFailed, IsTurn}
+use Rattle.write_chain.specs.Puts.{Called}
+use Rattle.write_chain.specs.declared.right.LinkCall.TheVariants as call
 use Rattle.write_chain.specs.declared.right.WriteRight.{WriteRight}
 use Rattle.write_chain.specs.declared.right.InHand.{InHand}
 use Rattle.write_chain.specs.declared.right.LinkInHand.{LinkInHand}
@@ -102,8 +106,7 @@ pub record HasInHand {O : Type 0} {g : Ghosts O} (p : Plan) (ways : List (List �
   pub stage_is : right_is.stage ≡ stage.Writes hand.now.0
   pub ticket : IsTicket p hand.now.0
   pub taken : right_is.taken ≡ true
-  pub place_is : right_is.heading.label.place ≡ hand.label.place
-  pub attempt_is : right_is.heading.label.attempt ≡ hand.label.attempt
+  pub label_is : right_is.heading.label ≡ hand.label
   pub owner_is : right_is.heading.owner ≡ hand.owner
   pub place_in : hand.label.place < 8 * p.operations
   pub begun : List ℕ
@@ -112,26 +115,32 @@ pub record HasInHand {O : Type 0} {g : Ghosts O} (p : Plan) (ways : List (List �
   -- the half has a fault where the seat noted one
   pub noted : 0 < faults_of hand.link m.0 → 0 < (g.state hand.home.out).faults
   pub few : hand.home.next < 4294967295
+  -- the half was put to behind looks alone since the message is in hand
+  pub turn : IsTurn g.state hand.came.list hand.home.out hand.calls.list
   pub slots : m.1 ≡ (ticket_request hand.now.0, Empty) ∷ (p.requests + hand.link, Empty) ∷ []
 
 -- and bytes are left, or none was put; the look before a put found the life live
 abbrev pub IsPart : Right → List ℕ → List ℕ → Type 0
 IsPart x begun left = (begun ≡ []) ⊎ ((x.clean ≡ true) × (left ≢ []))
 
-abbrev pub HasPart : {O : Type 0} {g : Ghosts O} → Plan → List (List ℕ) → ℕ → ℕ → InHand O g → Me (SockHome O g) View → Type 0
-HasPart p ways id last hand m = (h : HasInHand p ways id last hand m) × IsPart h.right_is h.begun (outgoing_of hand.bytes).left
-
--- the look before a put found the life live
-abbrev pub IsClean : {O : Type 0} {g : Ghosts O} → Plan → List (List ℕ) → ℕ → ℕ → InHand O g → Me (SockHome O g) View → Type 0
-IsClean p ways id last hand m = (h : HasInHand p ways id last hand m) × (h.right_is.clean ≡ true)
-
--- the link took the whole message, and the look before its last put found the life live
-abbrev pub HasWhole : {O : Type 0} {g : Ghosts O} → Plan → List (List ℕ) → ℕ → ℕ → InHand O g → Me (SockHome O g) View → Type 0
-HasWhole p ways id last hand m = (h : HasInHand p ways id last hand m) × (h.right_is.clean ≡ true) × ((outgoing_of hand.bytes).left ≡ [])
+abbrev pub HasRest : {O : Type 0} {g : Ghosts O} → Plan → List (List ℕ) → ℕ → ℕ → InHand O g → Me (SockHome O g) View → Type 0
+HasRest p ways id last hand m = (h : HasInHand p ways id last hand m) × IsPart h.right_is h.begun (outgoing_of hand.bytes).left
 
 -- the seat found that the life was failed
 abbrev pub FoundDead : ℕ → View → Type 0
 FoundDead id v = 0 < marks_of (is_saw (socket_id_version id + 1)) (socket_id_slot id) v
+
+-- and where the link failed since the message is in hand, the life was found failed
+abbrev pub HasPart : {O : Type 0} {g : Ghosts O} → Plan → List (List ℕ) → ℕ → ℕ → InHand O g → Me (SockHome O g) View → Type 0
+HasPart p ways id last hand m = (h : HasInHand p ways id last hand m) × IsPart h.right_is h.begun (outgoing_of hand.bytes).left × (NoneFailed hand.calls.list ⊎ FoundDead id m.0)
+
+-- the look before this found the life live, and is spent by no put yet
+abbrev pub IsClean : {O : Type 0} {g : Ghosts O} → Plan → List (List ℕ) → ℕ → ℕ → InHand O g → Me (SockHome O g) View → Type 0
+IsClean p ways id last hand m = (h : HasInHand p ways id last hand m) × (h.right_is.clean ≡ true) × MayPut hand.calls.list
+
+-- the link took the whole message, and the look before its last put found the life live
+abbrev pub HasWhole : {O : Type 0} {g : Ghosts O} → Plan → List (List ℕ) → ℕ → ℕ → InHand O g → Me (SockHome O g) View → Type 0
+HasWhole p ways id last hand m = (h : HasInHand p ways id last hand m) × (h.right_is.clean ≡ true) × ((outgoing_of hand.bytes).left ≡ [])
 
 -- so many faults the link in hand had: it has as many, or the life was found failed
 abbrev pub FaultTold : {O : Type 0} {g : Ghosts O} → ℕ → ℕ → LinkHome O g → View → Type 0
@@ -187,10 +196,77 @@ TriedFaults n id (tried.Dead hand) v = FaultTold n id hand.home v
 TriedFaults n id (tried.Whole hand) v = FaultTold n id hand.home v
 TriedFaults n id (tried.Goes by) v = FaultsBy n id by v
 
--- nothing was put: all in hand is as it was
+-- all in hand is as it was, but for the calls
+abbrev pub JustLooked : {O : Type 0} {g : Ghosts O} → InHand O g → InHand O g → Type 0
+JustLooked old new = (numbered : old.label.attempt ≤ 6) × (new ≡ record old { calls = new.calls; numbered = numbered })
+
+-- nothing was put, after a look
 abbrev pub IsDead : {O : Type 0} {g : Ghosts O} → InHand O g → Tried O g → Type 0
-IsDead old (tried.Dead hand) = hand ≡ old
+IsDead old (tried.Dead hand) = JustLooked old hand
 IsDead old other = ⊥
+
+-- the message is in hand still, and has this
+abbrev pub HandBy : {O : Type 0} {g : Ghosts O} → (InHand O g → Type 0) → Doing O g → Type 0
+HandBy P (doing.Puts hand) = P hand
+HandBy P (doing.Waits hand) = P hand
+HandBy P other = ⊥
+
+-- one put was made since
+abbrev pub PutOnce : {O : Type 0} {g : Ghosts O} → InHand O g → InHand O g → Type 0
+PutOnce old new = (answer : Put) × Called (call.Put answer) old new
+
+-- the one put was made, whatever came of it
+abbrev pub TriedPut : {O : Type 0} {g : Ghosts O} → InHand O g → Tried O g → Type 0
+TriedPut old (tried.Dead hand) = ⊥
+TriedPut old (tried.Whole hand) = PutOnce old hand
+TriedPut old (tried.Goes by) = HandBy (PutOnce old) by
+
+-- or nothing was left, and none was made
+abbrev pub PutOrWhole : {O : Type 0} {g : Ghosts O} → InHand O g → Tried O g → Type 0
+PutOrWhole old (tried.Dead hand) = ⊥
+PutOrWhole old (tried.Whole hand) = PutOnce old hand ⊎ (((outgoing_of old.bytes).left ≡ []) × (hand.calls.list ≡ old.calls.list))
+PutOrWhole old (tried.Goes by) = HandBy (PutOnce old) by
+
+-- there was a look more that found the life live, and behind it one put
+abbrev pub LookedAndPut : {O : Type 0} {g : Ghosts O} → InHand O g → InHand O g → Type 0
+LookedAndPut old new = (new.came.list ≡ old.came.list) × (answer : Put) × (new.calls.list ≡ call.Put answer ∷ call.Looked true ∷ old.calls.list)
+
+-- there was one look more, and where it found the life live one put, unless nothing was left
+abbrev pub TriedOnce : {O : Type 0} {g : Ghosts O} → InHand O g → Tried O g → Type 0
+TriedOnce old (tried.Dead hand) = hand.calls.list ≡ call.Looked false ∷ old.calls.list
+TriedOnce old (tried.Whole hand) = LookedAndPut old hand ⊎ (((outgoing_of old.bytes).left ≡ []) × (hand.calls.list ≡ call.Looked true ∷ old.calls.list))
+TriedOnce old (tried.Goes by) = HandBy (LookedAndPut old) by
+
+-- since the message came into hand there was one look, and one put exactly where it found the life live
+abbrev pub IsOneTry : {O : Type 0} {g : Ghosts O} → InHand O g → Type 0
+IsOneTry hand = (hand.calls.list ≡ call.Looked false ∷ []) ⊎ ((answer : Put) × (hand.calls.list ≡ call.Put answer ∷ call.Looked true ∷ []))
+
+-- a message that its link took whole by one put behind one look, or by the look alone, where it has no bytes
+pub record TookAtOnce {O : Type 0} (g : Ghosts O) : Type 0 where
+  pub hand : InHand O g
+  pub turn : IsTurn g.state hand.came.list hand.home.out hand.calls.list
+  pub whole : (outgoing_of hand.bytes).left ≡ []
+  pub calls : (hand.calls.list ≡ call.Looked true ∷ []) ⊎ ((answer : Put) × (hand.calls.list ≡ call.Put answer ∷ call.Looked true ∷ []))
+
+-- the head has a newer ticket
+abbrev pub IsReversing : {O : Type 0} {g : Ghosts O} → Doing O g → Type 0
+IsReversing (doing.Reversing link top) = Unit {0}
+IsReversing other = ⊥
+
+-- nothing that was noted is left to write
+abbrev pub LeftAll : {O : Type 0} {g : Ghosts O} → Once O g → Type 0
+LeftAll (once.Done s) = Unit {0}
+LeftAll (once.Keep r) = IsReversing r.doing
+
+-- the message that `start` accepted was tried once: it is in hand still, or the link took it whole
+abbrev pub TriedAtOnce : {O : Type 0} {g : Ghosts O} → Doing O g → Type 0
+TriedAtOnce {O} {g} (doing.Puts hand) = IsOneTry hand
+TriedAtOnce {O} {g} (doing.Waits hand) = IsOneTry hand
+TriedAtOnce {O} {g} other = TookAtOnce g
+
+abbrev pub OnceTried : {O : Type 0} {g : Ghosts O} → Once O g → Type 0
+OnceTried {O} {g} (once.Done s) = TookAtOnce g
+OnceTried {O} {g} (once.Keep r) = TriedAtOnce r.doing
 
 -- the right is kept
 abbrev pub IsKeep : {O : Type 0} {g : Ghosts O} → Once O g → Type 0

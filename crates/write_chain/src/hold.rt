@@ -11,10 +11,14 @@ ghost use Rattle.sock_rule.specs.declared.homes.SockHome.TheVariants.{Empty};
 ghost use Rattle.sock_rule.specs.SocketSeatSplits.{IsSeat};
 ghost use Rattle.sock_rule.specs.ChainPlays.{IsTicket};
 ghost use Rattle.sock_rule.specs.HoldingWriteRight.{Rights, MayFreeRequest};
-ghost use Rattle.write_chain.specs.NotingWhileWriting.{Faulted, Wrote};
-ghost use Rattle.write_chain.specs.WritingRightInHand.{MayBegin, Stands, HasLink, HasPart, IsClean, HasWhole, FoundDead, GoesBy, IsLast, OnceBy, TriedBy, TriedFaults, IsDead, IsKeep};
+ghost use Rattle.write_chain.specs.NotingWhileWriting.{Faulted, KeepsMessage, Wrote};
+ghost use Rattle.write_chain.specs.WritingRightInHand.{MayBegin, Stands, HasLink, HasRest, HasPart, IsClean, HasWhole, FoundDead, GoesBy, IsLast, OnceBy, OnceTried, TriedBy, TriedFaults, JustLooked, TriedOnce, TriedPut, PutOrWhole, LeftAll, IsDead, IsKeep};
+ghost use Rattle.write_chain.specs.declared.right.LinkCall.TheVariants as call;
+ghost use Rattle.write_chain.specs.Puts.{Called};
 
-use crate::right::{Doing, HeldChain, InHand, LinkInHand, WriteRight};
+use crate::hand::called;
+use crate::right::{Doing, HeldChain, InHand, LinkCall, LinkInHand, WriteRight};
+use ghosts::Ghosts;
 use sock_io::{Out, Put};
 use sock_rule::{Letter, SockSeat};
 use sock_table::{SockRef, SockTable};
@@ -91,6 +95,7 @@ impl<O: Out> HeldChain<'_, O> {
         ensures seat { IsSeat self.now.table.now.rule.table.shared.table_id self.now.table.now.rule.plan seat.new }
         ensures hand { HasPart self.now.table.now.rule.plan self.now.table.now.rule.ways.list self.now.sock.id.0 self.now.last.0 result seat.new.me }
         ensures now { result.now.0 ≡ now.0 }
+        ensures calls { result.calls.list ≡ [] }
         ensures others { seat.new.me.0 ≡ record seat.old.me.0 { rights = seat.new.me.0.rights } }
     {
         let LinkInHand { link: number, home } = link;
@@ -99,6 +104,8 @@ impl<O: Out> HeldChain<'_, O> {
             label,
             owner,
         } = self.table.rule.take_msg(seat, now);
+        let came = Ghosts::of(&home.out);
+        let calls = Ghosts::of(&now);
         InHand {
             link: number,
             home,
@@ -106,6 +113,8 @@ impl<O: Out> HeldChain<'_, O> {
             bytes: bytes.begin(),
             label,
             owner,
+            came,
+            calls,
         }
     }
 
@@ -117,6 +126,7 @@ impl<O: Out> HeldChain<'_, O> {
         ensures seat { IsSeat self.now.table.now.rule.table.shared.table_id self.now.table.now.rule.plan seat.new }
         ensures goes { GoesBy self.now.table.now.rule.plan self.now.table.now.rule.ways.list self.now.sock.id.0 self.now.last.0 result seat.new.me }
         ensures last { now.0 ≡ self.now.last.0 → IsLast result }
+        ensures message { KeepsMessage seat.old.me.0 seat.new.me.0 }
         ensures others { seat.new.me.0 ≡ record seat.old.me.0 { rights = seat.new.me.0.rights } }
     {
         if now.0 == self.last.0 {
@@ -145,6 +155,8 @@ impl<O: Out> HeldChain<'_, O> {
             bytes,
             label,
             owner: _,
+            came: _,
+            calls: _,
         } = hand;
         drop(bytes);
         let place = PlaceWord::pack(false, link, home.next);
@@ -160,6 +172,7 @@ impl<O: Out> HeldChain<'_, O> {
         requires may { HasLink self.table.now.rule.plan self.table.now.rule.ways.list self.sock.id.0 self.last.0 Empties [] link seat.old.me }
         ensures seat { IsSeat self.entry.table.now.rule.table.shared.table_id self.entry.table.now.rule.plan seat.new }
         ensures once { OnceBy self.entry.table.now.rule.plan self.entry.table.now.rule.ways.list self.entry.sock result seat.new.me }
+        ensures left { LeftAll result }
         ensures others { seat.new.me.0 ≡ record seat.old.me.0 { rights = seat.new.me.0.rights } }
     {
         let HeldChain { table, sock, last } = self;
@@ -177,21 +190,25 @@ impl<O: Out> HeldChain<'_, O> {
         })
     }
 
-    /// A8: whether the socket lives. Then the right is clean.
+    /// A8: whether the socket lives. Then the right is clean, and one put may follow.
     #[inline(always)]
-    pub fn look(&self, seat: &mut SockSeat<O>, _hand: &InHand<O>) -> bool
+    pub fn look(&self, seat: &mut SockSeat<O>, hand: &mut InHand<O>) -> bool
         requires seat { IsSeat self.now.table.now.rule.table.shared.table_id self.now.table.now.rule.plan seat.old }
-        requires may { HasPart self.now.table.now.rule.plan self.now.table.now.rule.ways.list self.now.sock.id.0 self.now.last.0 _hand.now seat.old.me }
+        requires may { HasPart self.now.table.now.rule.plan self.now.table.now.rule.ways.list self.now.sock.id.0 self.now.last.0 hand.old seat.old.me }
         ensures seat { IsSeat self.now.table.now.rule.table.shared.table_id self.now.table.now.rule.plan seat.new }
-        ensures live { result ≡ true → IsClean self.now.table.now.rule.plan self.now.table.now.rule.ways.list self.now.sock.id.0 self.now.last.0 _hand.entry.now seat.new.me }
+        ensures looked { JustLooked hand.old hand.new }
+        ensures called { Called (call.Looked result) hand.old hand.new }
+        ensures live { result ≡ true → IsClean self.now.table.now.rule.plan self.now.table.now.rule.ways.list self.now.sock.id.0 self.now.last.0 hand.new seat.new.me }
         ensures stays { FoundDead self.now.sock.id.0 seat.old.me.0 → result ≡ false }
-        ensures dead { result ≡ false → HasPart self.now.table.now.rule.plan self.now.table.now.rule.ways.list self.now.sock.id.0 self.now.last.0 _hand.entry.now seat.new.me × FoundDead self.now.sock.id.0 seat.new.me.0 }
+        ensures dead { result ≡ false → HasPart self.now.table.now.rule.plan self.now.table.now.rule.ways.list self.now.sock.id.0 self.now.last.0 hand.new seat.new.me × FoundDead self.now.sock.id.0 seat.new.me.0 }
         ensures wrote { Wrote O.state self.now.sock.id.0 seat.old.me.0 seat.new.me.0 }
     {
         let slot = slot_at(self.table, &self.sock);
         let step = self.table.rule.look_to_write(seat, slot);
         let found = Vref(step.found);
-        !found.is_failed()
+        let live = !found.is_failed();
+        hand.calls = called(&hand.calls, LinkCall::Looked(live));
+        live
     }
 
     /// The link failed, which the seat notes: so does the socket, unless it was failed before. As bRPC's `Socket::SetFailed` behind a
@@ -199,7 +216,7 @@ impl<O: Out> HeldChain<'_, O> {
     #[inline(always)]
     pub fn fail_link(&self, seat: &mut SockSeat<O>, _hand: &InHand<O>)
         requires seat { IsSeat self.now.table.now.rule.table.shared.table_id self.now.table.now.rule.plan seat.old }
-        requires may { HasPart self.now.table.now.rule.plan self.now.table.now.rule.ways.list self.now.sock.id.0 self.now.last.0 _hand.now seat.old.me }
+        requires may { HasRest self.now.table.now.rule.plan self.now.table.now.rule.ways.list self.now.sock.id.0 self.now.last.0 _hand.now seat.old.me }
         requires fault { Faulted O.state _hand.now.link }
         requires rose { 0 < (O.state _hand.now.home.out).faults }
         ensures seat { IsSeat self.now.table.now.rule.table.shared.table_id self.now.table.now.rule.plan seat.new }
@@ -213,13 +230,14 @@ impl<O: Out> HeldChain<'_, O> {
         drop(failed);
     }
 
-    /// One put of what is left of a message.
+    /// One put of what is left of a message, which spends the look before it.
     #[inline(always)]
     pub fn put_piece(&self, seat: &mut SockSeat<O>, mut hand: InHand<O>) -> Tried<O>
         requires seat { IsSeat self.now.table.now.rule.table.shared.table_id self.now.table.now.rule.plan seat.old }
         requires may { IsClean self.now.table.now.rule.plan self.now.table.now.rule.ways.list self.now.sock.id.0 self.now.last.0 hand seat.old.me × ((outgoing_of hand.bytes).left ≢ []) }
         ensures seat { IsSeat self.now.table.now.rule.table.shared.table_id self.now.table.now.rule.plan seat.new }
         ensures tried { TriedBy self.now.table.now.rule.plan self.now.table.now.rule.ways.list self.now.sock.id.0 self.now.last.0 hand.now.0 result seat.new.me }
+        ensures put { TriedPut hand result }
         ensures faults { TriedFaults (O.state hand.home.out).faults self.now.sock.id.0 result seat.new.me.0 }
         ensures wrote { Wrote O.state self.now.sock.id.0 seat.old.me.0 seat.new.me.0 }
     {
@@ -244,6 +262,7 @@ impl<O: Out> HeldChain<'_, O> {
         requires may { IsClean self.now.table.now.rule.plan self.now.table.now.rule.ways.list self.now.sock.id.0 self.now.last.0 hand seat.old.me }
         ensures seat { IsSeat self.now.table.now.rule.table.shared.table_id self.now.table.now.rule.plan seat.new }
         ensures tried { TriedBy self.now.table.now.rule.plan self.now.table.now.rule.ways.list self.now.sock.id.0 self.now.last.0 hand.now.0 result seat.new.me }
+        ensures put { PutOrWhole hand result }
         ensures faults { TriedFaults (O.state hand.home.out).faults self.now.sock.id.0 result seat.new.me.0 }
         ensures wrote { Wrote O.state self.now.sock.id.0 seat.old.me.0 seat.new.me.0 }
     {
@@ -255,16 +274,17 @@ impl<O: Out> HeldChain<'_, O> {
 
     /// A look, and one put where the socket lives. Where the link fails the socket is failed, so that nothing is put any more.
     #[inline(always)]
-    pub fn try_put(&self, seat: &mut SockSeat<O>, hand: InHand<O>) -> Tried<O>
+    pub fn try_put(&self, seat: &mut SockSeat<O>, mut hand: InHand<O>) -> Tried<O>
         requires seat { IsSeat self.now.table.now.rule.table.shared.table_id self.now.table.now.rule.plan seat.old }
         requires may { HasPart self.now.table.now.rule.plan self.now.table.now.rule.ways.list self.now.sock.id.0 self.now.last.0 hand seat.old.me }
         ensures seat { IsSeat self.now.table.now.rule.table.shared.table_id self.now.table.now.rule.plan seat.new }
         ensures tried { TriedBy self.now.table.now.rule.plan self.now.table.now.rule.ways.list self.now.sock.id.0 self.now.last.0 hand.now.0 result seat.new.me }
+        ensures once { TriedOnce hand result }
         ensures stays { FoundDead self.now.sock.id.0 seat.old.me.0 → IsDead hand result }
         ensures faults { TriedFaults (O.state hand.home.out).faults self.now.sock.id.0 result seat.new.me.0 }
         ensures wrote { Wrote O.state self.now.sock.id.0 seat.old.me.0 seat.new.me.0 }
     {
-        if self.look(seat, &hand) {
+        if self.look(seat, &mut hand) {
             return self.put_or_place(seat, hand);
         }
         Tried::Dead(hand)
@@ -278,6 +298,7 @@ impl<O: Out> HeldChain<'_, O> {
         ensures seat { IsSeat self.now.table.now.rule.table.shared.table_id self.now.table.now.rule.plan seat.new }
         ensures hand { HasPart self.now.table.now.rule.plan self.now.table.now.rule.ways.list self.now.sock.id.0 self.now.last.0 result seat.new.me }
         ensures now { result.now.0 ≡ self.now.last.0 }
+        ensures calls { result.calls.list ≡ [] }
         ensures wrote { Wrote O.state self.now.sock.id.0 seat.old.me.0 seat.new.me.0 }
     {
         let slot = slot_at(self.table, &self.sock);
@@ -296,6 +317,7 @@ impl<O: Out> HeldChain<'_, O> {
         requires last { IsLast doing }
         ensures seat { IsSeat self.entry.table.now.rule.table.shared.table_id self.entry.table.now.rule.plan seat.new }
         ensures once { OnceBy self.entry.table.now.rule.plan self.entry.table.now.rule.ways.list self.entry.sock result seat.new.me }
+        ensures left { LeftAll result }
         ensures others { seat.new.me.0 ≡ record seat.old.me.0 { rights = seat.new.me.0.rights } }
     {
         let Doing::Last(link) = doing else {
@@ -305,8 +327,8 @@ impl<O: Out> HeldChain<'_, O> {
     }
 }
 
-/// One put of the message that `start` accepted, of whoever has the right. Done exactly where the link took it whole and the
-/// head was emptied.
+/// One look of whoever has the right, and one put of the message that `start` accepted exactly where the look found the socket
+/// live. Done exactly where the link took it whole and the head was emptied.
 /// The write in place of bRPC's `Socket::StartWrite` (io.md, socket.cpp).
 #[inline(always)]
 pub fn write_once<O: Out>(
@@ -318,6 +340,7 @@ pub fn write_once<O: Out>(
     requires may { MayBegin table.now.rule.plan right seat.old.me }
     ensures seat { IsSeat table.now.rule.table.shared.table_id table.now.rule.plan seat.new }
     ensures once { OnceBy table.now.rule.plan table.now.rule.ways.list right.sock result seat.new.me }
+    ensures tried { OnceTried result }
     ensures stays { FoundDead right.sock.id.0 seat.old.me.0 → IsKeep result }
     ensures wrote { Wrote O.state right.sock.id.0 seat.old.me.0 seat.new.me.0 }
 {

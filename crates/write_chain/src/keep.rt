@@ -62,6 +62,8 @@ impl<O: Out> HeldChain<'_, O> {
             bytes,
             label,
             owner,
+            came: _,
+            calls: _,
         } = hand;
         let place = PlaceWord::pack(true, link, home.next);
         let mut home = self

@@ -1,10 +1,20 @@
 ghost use Rattle.std.specs.Prelude.{◌≡◌, ◌≤◌};
 
+use ghosts::Ghosts;
 use message_parts::OutgoingParcel;
-use sock_io::Out;
+use sock_io::{Out, Put, Ready};
 use sock_rule::LinkHome;
 use sock_table::{SockRef, SockTable};
 use sock_words::{Label, Ticket};
+
+/// What whoever has a message in hand did: a look, which found the life live or not, a put, or the question whether the link
+/// takes more.
+#[derive(Clone, Copy, Debug)]
+pub enum LinkCall {
+    Looked(bool),
+    Put(Put),
+    Asked(Ready),
+}
 
 /// The link that is written, in hand of whoever has the right.
 #[derive(Drop)]
@@ -13,7 +23,8 @@ pub struct LinkInHand<O: Out> {
     pub home: LinkHome<O>,
 }
 
-/// The link and the message that are written, in hand of whoever has the right.
+/// The link and the message that are written, in hand of whoever has the right. For the proofs it has the half as it was when
+/// the message came into hand, and what was done since, of which the last stands first.
 #[derive(Drop)]
 pub struct InHand<O: Out> {
     pub link: u16,
@@ -22,6 +33,8 @@ pub struct InHand<O: Out> {
     pub bytes: OutgoingParcel,
     pub label: Label,
     pub owner: u64,
+    pub came: Ghosts<O>,
+    pub calls: Ghosts<LinkCall>,
     pub ghost numbered: { label.attempt ≤ 6 },
 }
 

@@ -1,8 +1,10 @@
-use Rattle.std.proofs.Common.{refl, ◌∙◌, sym, subst}
+use Rattle.std.proofs.Common.{false, ◌∷◌, inl, refl, ap, ◌∙◌, sym, subst}
 use Rattle.write_chain.specs.declared.hold.Once.TheVariants as once
-use Rattle.write_chain.specs.WritingRightInHand.{OnceBy}
+use Rattle.write_chain.specs.declared.right.LinkCall.TheVariants as call
+use Rattle.write_chain.specs.WritingRightInHand.{OnceBy, OnceTried}
 use Rattle.write_chain.proofs.NotingWhileWriting.{wrote_then, wrote_rights, rights_then}
 use Rattle.write_chain.proofs.Dropping.{still_dead}
+use Rattle.write_chain.proofs.Turning.{goes_once, whole_once, left_once}
 use Rattle.write_chain.proofs.hold.write_once.Goals as goal
 
 pub take_up-hand-requires-clause-may : goal.take_up-hand-requires-clause-may
@@ -39,3 +41,12 @@ returns-in-Whole-clause-stays g c = λ d. absurd (c.in-Whole.ensures.stays (stil
 
 pub returns-in-Goes-clause-stays : goal.returns-in-Goes-clause-stays
 returns-in-Goes-clause-stays g c = λ d. tt
+
+pub returns-in-Dead-clause-tried : goal.returns-in-Dead-clause-tried
+returns-in-Dead-clause-tried g c = subst (λ r. OnceTried (once.Keep r)) (sym c.with.ensures) (inl (c.in-Dead.ensures.once ∙ ap (λ l. call.Looked false ∷ l) c.take_up-hand.ensures.calls))
+
+pub returns-in-Whole-clause-tried : goal.returns-in-Whole-clause-tried
+returns-in-Whole-clause-tried g c = left_once c.leave_last.result c.leave_last.ensures.left (whole_once c.take_up-hand.result c.in-Whole.hand c.take_up-hand.ensures.calls c.in-Whole.ensures.once c.in-Whole.ensures.tried.0.0.turn c.in-Whole.ensures.tried.0.2)
+
+pub returns-in-Goes-clause-tried : goal.returns-in-Goes-clause-tried
+returns-in-Goes-clause-tried g c = subst (λ r. OnceTried (once.Keep r)) (sym c.with-in-Goes.ensures) (goes_once c.take_up-hand.result c.in-Goes.doing c.take_up-hand.ensures.calls c.in-Goes.ensures.once)

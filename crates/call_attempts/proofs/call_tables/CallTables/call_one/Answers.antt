@@ -76,7 +76,7 @@ pub returns-in_err-kept-clause-own : goal.returns-in_err-kept-clause-own
 returns-in_err-kept-clause-own g c = own_after c.args.seat.now.me.0 c.find.new.seat.me.0 (keeps_leaves c.args.seat.now.me.0 c.find.new.seat.me.0 (found_keeps c.args.self.now.tables.now.socks.rule.plan c.name.result c.find.result c.args.seat.now.me.0 c.find.new.seat.me.0 c.find.ensures.found))
 
 pub returns-in_default-create-clause-by : goal.returns-in_default-create-clause-by
-returns-in_default-create-clause-by g c = let f = (not_ok c.create.result _ c.in_default-create.not-Ok c.create.ensures.full) in record { socket = c.in-Some.socket; found = (subst (λ (n : ℕ). Found c.args.self.now.tables.now.socks.rule.plan n (Some c.in-Some.socket) c.args.seat.now.me.0 c.find.new.seat.me.0) c.name.ensures.name c.in-Some.ensures.found); quiet = f.1.1; taken = f.1.2; books = refl }
+returns-in_default-create-clause-by g c = let f = (not_ok c.create.result _ c.in_default-create.not-Ok c.create.ensures.full) in record { socket = c.in-Some.socket; found = (subst (λ (n : ℕ). Found c.args.self.now.tables.now.socks.rule.plan n (Some c.in-Some.socket) c.args.seat.now.me.0 c.find.new.seat.me.0) c.name.ensures.name c.in-Some.ensures.found); quiet = f.1.1; taken = (not_ok c.create.result _ c.in_default-create.not-Ok c.create.ensures.full_now).1; books = refl }
 
 pub returns-in_default-create-clause-rested : goal.returns-in_default-create-clause-rested
 returns-in_default-create-clause-rested g c = let z = c.args.self.now.tables.now.socks.rule.table.shared.table_id in let p = c.args.self.now.tables.now.socks.rule.plan in let y = c.args.self.now.tables.now.ids.table.shared.table_id in let e = c.find.ensures in let quiet = (not_ok c.create.result _ c.in_default-create.not-Ok c.create.ensures.full).1.1 in

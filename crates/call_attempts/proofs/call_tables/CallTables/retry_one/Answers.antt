@@ -37,7 +37,7 @@ pub handle-requires-clause-lock : goal.handle-requires-clause-lock
 handle-requires-clause-lock g c = let u = c.in-Next.ensures.unlocked in next_locks c.args.self.now.tables.now.ids.plan.slots c.in-Ok.lock.slot c.in-Next.next c.in-Ok.lock.content c.unlock.new.seat.me.0 c.in-Ok.ensures.inside u.0 u.1 u.2
 
 pub returns-in_default-clause-by : goal.returns-in_default-clause-by
-returns-in_default-clause-by g c = let e = not_ok c.lock.result _ c.in_default.not-Ok (both_err c.lock.result _ _ c.lock.ensures.gone c.lock.ensures.advanced) in had_ended record { gone = record { quiet = e.1.0.0; found = e.0.found; cause = e.1.0.1; later = e.1.1 }; books = refl; socks = refl }
+returns-in_default-clause-by g c = let e = not_ok c.lock.result _ c.in_default.not-Ok (both_err c.lock.result _ _ c.lock.ensures.gone (both_err c.lock.result _ _ c.lock.ensures.advanced c.lock.ensures.gone_now)) in had_ended record { gone = record { quiet = e.1.0.0; found = e.0.found; cause = e.1.0.1; now = e.1.1.1; later = e.1.1.0 }; books = refl; socks = refl }
 
 pub returns-in_default-clause-rested : goal.returns-in_default-clause-rested
 returns-in_default-clause-rested g c = let z = c.args.self.now.tables.now.socks.rule.table.shared.table_id in let p = c.args.self.now.tables.now.socks.rule.plan in let y = c.args.self.now.tables.now.ids.table.shared.table_id in
@@ -47,7 +47,7 @@ pub returns-in_default-clause-own : goal.returns-in_default-clause-own
 returns-in_default-clause-own g c = own_after c.args.seat.now.me.0 c.args.seat.now.me.0 (keeps_leaves c.args.seat.now.me.0 c.args.seat.now.me.0 (none_keeps c.args.seat.now.me.0))
 
 pub returns-in_default-new-clause-gave_up : goal.returns-in_default-new-clause-gave_up
-returns-in_default-new-clause-gave_up g c = record { lock = c.in-Ok.lock; at = (both c.args.seat.now.me.0 (record c.args.calls.now { seat = c.lock.new.seat })); locked = record { got = record { slot_is = c.in-Ok.ensures.locked.0; inside = c.in-Ok.ensures.inside; from_first = c.in-Ok.ensures.of_range.0; to_last = c.in-Ok.ensures.of_range.1; word = c.in-Ok.ensures.locked.1.0; got = c.in-Ok.ensures.locked.1.1 }; books = refl; socks = refl }; ended = c.end_call.ensures.ended; socks = refl }
+returns-in_default-new-clause-gave_up g c = record { lock = c.in-Ok.lock; at = (both c.args.seat.now.me.0 (record c.args.calls.now { seat = c.lock.new.seat })); locked = record { got = record { slot_is = c.in-Ok.ensures.locked.0; inside = c.in-Ok.ensures.inside; from_first = c.in-Ok.ensures.of_range.0; to_last = c.in-Ok.ensures.of_range.1; word = c.in-Ok.ensures.locked.1.0; got = c.in-Ok.ensures.locked.1.1; now = c.in-Ok.ensures.found_now }; books = refl; socks = refl }; ended = c.end_call.ensures.ended; socks = refl }
 
 pub returns-in_default-new-clause-rested : goal.returns-in_default-new-clause-rested
 returns-in_default-new-clause-rested g c = let z = c.args.self.now.tables.now.socks.rule.table.shared.table_id in let p = c.args.self.now.tables.now.socks.rule.plan in let y = c.args.self.now.tables.now.ids.table.shared.table_id in
@@ -57,7 +57,7 @@ pub returns-in_default-new-clause-own : goal.returns-in_default-new-clause-own
 returns-in_default-new-clause-own g c = own_after c.args.seat.now.me.0 c.args.seat.now.me.0 (keeps_leaves c.args.seat.now.me.0 c.args.seat.now.me.0 (none_keeps c.args.seat.now.me.0))
 
 pub returns-in-Next-clause-by : goal.returns-in-Next-clause-by
-returns-in-Next-clause-by g c = overtaken c.in-Ok.lock (both c.args.seat.now.me.0 (record c.args.calls.now { seat = c.lock.new.seat })) record { got = record { slot_is = c.in-Ok.ensures.locked.0; inside = c.in-Ok.ensures.inside; from_first = c.in-Ok.ensures.of_range.0; to_last = c.in-Ok.ensures.of_range.1; word = c.in-Ok.ensures.locked.1.0; got = c.in-Ok.ensures.locked.1.1 }; books = refl; socks = refl } record { next = c.in-Next.next; code = c.in-Next.code; attempt = c.in-Next.attempt; view = c.unlock.new.seat.me.0; unlocked = c.in-Next.ensures.unlocked; decided = c.handle.ensures.decided; socks = refl }
+returns-in-Next-clause-by g c = overtaken c.in-Ok.lock (both c.args.seat.now.me.0 (record c.args.calls.now { seat = c.lock.new.seat })) record { got = record { slot_is = c.in-Ok.ensures.locked.0; inside = c.in-Ok.ensures.inside; from_first = c.in-Ok.ensures.of_range.0; to_last = c.in-Ok.ensures.of_range.1; word = c.in-Ok.ensures.locked.1.0; got = c.in-Ok.ensures.locked.1.1; now = c.in-Ok.ensures.found_now }; books = refl; socks = refl } record { next = c.in-Next.next; code = c.in-Next.code; attempt = c.in-Next.attempt; view = c.unlock.new.seat.me.0; unlocked = c.in-Next.ensures.unlocked; decided = c.handle.ensures.decided; socks = refl }
 
 pub returns-in-Next-clause-rested : goal.returns-in-Next-clause-rested
 returns-in-Next-clause-rested g c = let z = c.args.self.now.tables.now.socks.rule.table.shared.table_id in let p = c.args.self.now.tables.now.socks.rule.plan in let y = c.args.self.now.tables.now.ids.table.shared.table_id in
@@ -70,7 +70,7 @@ pub returns-in-Open-clause-rested : goal.returns-in-Open-clause-rested
 returns-in-Open-clause-rested g c = let e = c.go_to.ensures.rested in record { rest = e.rest; refs = e.refs; seen = e.seen; keeps = record { stays = stays_then c.args.calls.now.seat c.unlock.new.seat c.go_to.new.calls.seat (stays_then c.args.calls.now.seat c.lock.new.seat c.unlock.new.seat c.lock.ensures.seat c.unlock.ensures.seat) e.keeps.stays; ids = e.keeps.ids } }
 
 pub returns-in-Open-clause-by : goal.returns-in-Open-clause-by
-returns-in-Open-clause-by g c = let m = letter_is c.in-Ok.lock.content c.content.result.now c.args.retry.id c.args.retry.attempt c.args.retry.low c.in-Ok-new.frame c.letter_of-msg.result c.content.ensures c.in-Ok-new.ensures c.letter_of-msg.ensures.bytes (subst (λ (k : IdLock Asked). c.letter_of-msg.result.label ≡ attempt_label k.content.operation c.args.retry.attempt) c.lock-2.view_is c.letter_of-msg.ensures.label) c.letter_of-msg.ensures.owner in went_again c.in-Ok.lock (both c.args.seat.now.me.0 (record c.args.calls.now { seat = c.lock.new.seat })) record { got = record { slot_is = c.in-Ok.ensures.locked.0; inside = c.in-Ok.ensures.inside; from_first = c.in-Ok.ensures.of_range.0; to_last = c.in-Ok.ensures.of_range.1; word = c.in-Ok.ensures.locked.1.0; got = c.in-Ok.ensures.locked.1.1 }; books = refl; socks = refl } record {
+returns-in-Open-clause-by g c = let m = letter_is c.in-Ok.lock.content c.content.result.now c.args.retry.id c.args.retry.attempt c.args.retry.low c.in-Ok-new.frame c.letter_of-msg.result c.content.ensures c.in-Ok-new.ensures c.letter_of-msg.ensures.bytes (subst (λ (k : IdLock Asked). c.letter_of-msg.result.label ≡ attempt_label k.content.operation c.args.retry.attempt) c.lock-2.view_is c.letter_of-msg.ensures.label) c.letter_of-msg.ensures.owner in went_again c.in-Ok.lock (both c.args.seat.now.me.0 (record c.args.calls.now { seat = c.lock.new.seat })) record { got = record { slot_is = c.in-Ok.ensures.locked.0; inside = c.in-Ok.ensures.inside; from_first = c.in-Ok.ensures.of_range.0; to_last = c.in-Ok.ensures.of_range.1; word = c.in-Ok.ensures.locked.1.0; got = c.in-Ok.ensures.locked.1.1; now = c.in-Ok.ensures.found_now }; books = refl; socks = refl } record {
   view = c.unlock.new.seat.me.0;
   unlocked = c.in-Open.ensures.unlocked;
   went = subst (λ (x : Letter). WentTo g.O.Out.state c.args.self.now.tables.now.socks.rule.plan c.args.self.now.tables.now.ids.plan (name_of c.in-Ok.lock.content c.args.retry.attempt) x (both c.args.seat.now.me.0 (record c.args.calls.now { seat = c.unlock.new.seat })) (both c.go_to.new.seat.me.0 c.go_to.new.calls)) m (subst (λ (n : ℕ). WentTo g.O.Out.state c.args.self.now.tables.now.socks.rule.plan c.args.self.now.tables.now.ids.plan n c.letter_of-msg.result (both c.args.seat.now.me.0 (record c.args.calls.now { seat = c.unlock.new.seat })) (both c.go_to.new.seat.me.0 c.go_to.new.calls)) c.name-name.ensures.name c.go_to.ensures.by);

@@ -1,4 +1,4 @@
-use Rattle.std.proofs.Common.{◌≡◌, ℕ, ◌+◌, ◌<◌, true, List, ◌∷◌, arith, sym, ap, ◌∙◌, subst}
+use Rattle.std.proofs.Common.{◌≡◌, ℕ, ◌+◌, ◌<◌, true, List, ◌∷◌, arith, refl, sym, ap, ◌∙◌, subst}
 use Rattle.atomic_table.specs.Table.{rest}
 use Rattle.sock_words.specs.PackedWords.{socket_id_version, socket_id_slot, place_word, ticket_request}
 use Rattle.sock_model.specs.declared.marks.SlotMark.{SlotMark}
@@ -9,6 +9,7 @@ use Rattle.sock_model.specs.Marks.{about, noted}
 use Rattle.sock_model.specs.MarkWeights.{is_met}
 use Rattle.sock_model.specs.LinksInSlots.{HoldsLink}
 use Rattle.sock_rule.specs.declared.homes.SockHome.TheVariants.{Empty}
+use Rattle.sock_rule.proofs.HoldingWriteRight.{one_right}
 use Rattle.write_chain.proofs.NotingWhileWriting.{wrote_notes, wrote_rights, drop_then, rights_but_store}
 use Rattle.write_chain.proofs.WriterThroughSteps.{part_noted, part_of, part_dropped}
 use Rattle.write_chain.proofs.Faulting.{code_faults}
@@ -31,7 +32,7 @@ drop_place-home-requires-clause-may g c = let h = part_noted c.args.hand c.args.
       stage = h.0.stage_is;
       taken = h.0.taken;
       away = h.0.has.away;
-      place_is = h.0.place_is;
+      place_is = ap (λ l. l.place) h.0.label_is;
       place_in = h.0.place_in;
       link_is = h.0.writer.link_is;
       places_are = sym h.0.has.places_are;
@@ -62,6 +63,8 @@ pub returns-clause-wrote : goal.returns-clause-wrote
 returns-clause-wrote g c = let h = part_noted c.args.hand c.args.seat.now.me c.code-told.new.seat.me (code_noted {state = g.O.Out.state} c.code-told.result c.args.self.now.sock.id.0 c.args.seat.now.me.0 c.code-told.new.seat.me.0 c.code-told.ensures.code).notes (code_noted {state = g.O.Out.state} c.code-told.result c.args.self.now.sock.id.0 c.args.seat.now.me.0 c.code-told.new.seat.me.0 c.code-told.ensures.code).noted (code_noted {state = g.O.Out.state} c.code-told.result c.args.self.now.sock.id.0 c.args.seat.now.me.0 c.code-told.new.seat.me.0 c.code-told.ensures.code).became c.code-told.ensures.slots (λ t. c.requires.may.0.0.noted (code_faults c.args.hand.link c.code-told.result c.args.self.now.sock.id.0 c.args.seat.now.me.0 c.code-told.new.seat.me.0 c.code-told.ensures.code t)) c.requires.may.0 in
     let left = rights_but_store c.code-told.new.seat.me.0 c.drop_place-home.new.seat.me.0 c.go_past-doing.new.seat.me.0 (place_index c.args.self.now.table.now.rule.plan c.args.hand.label.place) c.pack-place.result.0 h.0.right_is.heading (dropped_right h.0.right_is c.args.hand.now.0 c.args.hand.home.took.list)
     (ap (λ m. m.0) (c.drop_place-home.ensures.view h.0.right_is c.args.hand.now.0 h.0.writer.one h.0.stage_is)) c.go_past-doing.ensures.others in
+    let dropped = dropped_right h.0.right_is c.args.hand.now.0 c.args.hand.home.took.list in
+    let kept = c.go_past-doing.ensures.message dropped (ap (λ m. m.0.rights) (c.drop_place-home.ensures.view h.0.right_is c.args.hand.now.0 h.0.writer.one h.0.stage_is) ∙ one_right c.code-told.new.seat.me.0 h.0.right_is dropped h.0.writer.one refl) in
     let value : c.pack-place.result.0 ≡ place_word true c.args.hand.link c.args.hand.home.next = omega (arith, c.pack-place.ensures.word) in
     let begun = wrote_notes c.args.seat.now.me.0 c.code-told.new.seat.me.0 (code_noted {state = g.O.Out.state} c.code-told.result c.args.self.now.sock.id.0 c.args.seat.now.me.0 c.code-told.new.seat.me.0 c.code-told.ensures.code).notes (code_noted {state = g.O.Out.state} c.code-told.result c.args.self.now.sock.id.0 c.args.seat.now.me.0 c.code-told.new.seat.me.0 c.code-told.ensures.code).noted (code_noted {state = g.O.Out.state} c.code-told.result c.args.self.now.sock.id.0 c.args.seat.now.me.0 c.code-told.new.seat.me.0 c.code-told.ensures.code).became in
     drop_then {state = g.O.Out.state} c.args.self.now.table.now.rule.plan record { left = c.args.hand.bytes; label = c.args.hand.label; owner = c.args.hand.owner; numbered = c.result-1.given.0 } c.args.seat.now.me.0 c.code-told.new.seat.me.0 c.go_past-doing.new.seat.me.0 begun record {
@@ -72,9 +75,15 @@ returns-clause-wrote g c = let h = part_noted c.args.hand c.args.seat.now.me c.c
       stores = left.1 ∙ ap (λ (x : ℕ). noted record { place = place_index c.args.self.now.table.now.rule.plan c.args.hand.label.place; word = x } c.code-told.new.seat.me.0.stores) value;
       heading = h.0.right_is.heading;
       drops = left.2;
-      place_is = h.0.place_is;
-      attempt_is = h.0.attempt_is;
+      label_is = h.0.label_is;
       owner_is = h.0.owner_is;
+      right = kept.0;
+      one = kept.1;
+      heading_is = kept.2;
+      before = h.0.right_is.sent;
+      begun = h.0.begun;
+      sent = kept.4 ∙ h.0.took;
+      bytes = kept.3 ∙ h.0.bytes_are;
       wrote = wrote_rights c.code-told.new.seat.me.0 (record c.go_past-doing.new.seat.me.0 { stores = c.code-told.new.seat.me.0.stores; drops = c.code-told.new.seat.me.0.drops }) left.0;
     }
 

@@ -1,10 +1,10 @@
-use Rattle.std.proofs.Common.{ap, ◌∙◌}
+use Rattle.std.proofs.Common.{inr, ap, ◌∙◌}
 use Rattle.sock_words.specs.PackedWords.{socket_id_slot}
 use Rattle.sock_rule.specs.LinkFaultNotes.{fault}
 use Rattle.write_chain.specs.NotingWhileWriting.{faulted}
 use Rattle.write_chain.proofs.Faulting.{fault_noted}
 use Rattle.write_chain.proofs.NotingWhileWriting.{found_it, wrote_notes}
-use Rattle.write_chain.proofs.WriterThroughSteps.{writer_noted, part_noted}
+use Rattle.write_chain.proofs.WriterThroughSteps.{writer_noted, rest_noted}
 use Rattle.write_chain.proofs.Looking.{fails, fails_dead}
 use Rattle.write_chain.proofs.right.HeldChain.fail_link.Goals as goal
 
@@ -25,7 +25,7 @@ set_failed-failed-requires-clause-rests g c = (writer_noted {O = g.row.O.Denot} 
 
 pub returns-clause-has : goal.returns-clause-has
 returns-clause-has g c = let f = fails c.args.self.now.sock.id.0 c.args._hand.now.link c.args.seat.now.me.0 c.note_fault.new.seat.me.0 c.set_failed-failed.new.seat.me.0 c.set_failed-failed.result (fault_noted c.slot_at-slot.result (socket_id_slot c.args.self.now.sock.id.0) c.args._hand.now.link c.requires.may.0.right_is.link c.args.seat.now.me.0 c.note_fault.new.seat.me.0 c.slot_at-slot.ensures.slot c.requires.may.0.writer.link_is (ap (λ m. m.0) (c.note_fault.ensures.view c.requires.may.0.right_is c.requires.may.0.writer.one))) c.set_failed-failed.ensures.ok c.set_failed-failed.ensures.err c.requires.fault c.requires.may.0.writer.holds.met in
-    part_noted c.args._hand.now c.args.seat.now.me c.set_failed-failed.new.seat.me f.notes f.noted f.became (c.set_failed-failed.ensures.slots ∙ ap (λ m. m.1) (c.note_fault.ensures.view c.requires.may.0.right_is c.requires.may.0.writer.one)) (λ t. c.requires.rose) c.requires.may
+    let r = rest_noted c.args._hand.now c.args.seat.now.me c.set_failed-failed.new.seat.me f.notes f.noted f.became (c.set_failed-failed.ensures.slots ∙ ap (λ m. m.1) (c.note_fault.ensures.view c.requires.may.0.right_is c.requires.may.0.writer.one)) (λ t. c.requires.rose) c.requires.may in (r.0, r.1, inr (fails_dead c.args.self.now.sock.id.0 c.note_fault.new.seat.me.0 c.set_failed-failed.new.seat.me.0 c.set_failed-failed.result c.set_failed-failed.ensures.ok c.set_failed-failed.ensures.err))
 
 pub returns-clause-wrote : goal.returns-clause-wrote
 returns-clause-wrote g c = let f = fails c.args.self.now.sock.id.0 c.args._hand.now.link c.args.seat.now.me.0 c.note_fault.new.seat.me.0 c.set_failed-failed.new.seat.me.0 c.set_failed-failed.result (fault_noted c.slot_at-slot.result (socket_id_slot c.args.self.now.sock.id.0) c.args._hand.now.link c.requires.may.0.right_is.link c.args.seat.now.me.0 c.note_fault.new.seat.me.0 c.slot_at-slot.ensures.slot c.requires.may.0.writer.link_is (ap (λ m. m.0) (c.note_fault.ensures.view c.requires.may.0.right_is c.requires.may.0.writer.one))) c.set_failed-failed.ensures.ok c.set_failed-failed.ensures.err c.requires.fault c.requires.may.0.writer.holds.met in wrote_notes c.args.seat.now.me.0 c.set_failed-failed.new.seat.me.0 f.notes f.noted f.became

@@ -1,7 +1,9 @@
-use Rattle.std.proofs.Common.{ap, subst}
+use Rattle.std.proofs.Common.{refl, ap, ◌∙◌, subst}
 use Rattle.sock_words.specs.declared.plain.Plan.{Plan}
 use Rattle.sock_model.specs.declared.chain.Stage.TheVariants.{Writes, Empties}
+use Rattle.sock_model.specs.ChainRows.{passing_right, freed_right}
 use Rattle.sock_rule.specs.ChainPlays.{IsTicket}
+use Rattle.sock_rule.proofs.HoldingWriteRight.{one_right}
 use Rattle.write_chain.proofs.NotingWhileWriting.{rights_only, rights_then}
 use Rattle.write_chain.proofs.WriterThroughSteps.{may_free, ends_at, past_end, passes_by, goes_to, past_next}
 use Rattle.write_chain.proofs.right.HeldChain.go_past.Goals as goal
@@ -35,3 +37,10 @@ returns-then-now-self-clause-last g c = λ e. tt
 
 pub returns-clause-last : goal.returns-clause-last
 returns-clause-last g c = λ e. absurd (c.if-now-self.false e)
+
+pub returns-then-now-self-clause-message : goal.returns-then-now-self-clause-message
+returns-then-now-self-clause-message g c = λ r one. (freed_right r, ap (λ m. m.0.rights) (c.give_request_back.ensures.view r one) ∙ one_right c.args.seat.now.me.0 r (freed_right r) one refl, refl, refl, refl)
+
+pub returns-clause-message : goal.returns-clause-message
+returns-clause-message g c = λ r one. let on = passing_right r c.args.now.0 c.read_on-found.result in let has = ap (λ m. m.0.rights) (c.read_on-found.ensures.view r one).0 ∙ one_right c.args.seat.now.me.0 r on one refl in
+    (freed_right on, ap (λ m. m.0.rights) (c.give_request_back-2.ensures.view on has) ∙ one_right c.read_on-found.new.seat.me.0 on (freed_right on) has refl, refl, refl, refl)

@@ -55,3 +55,9 @@ pub returns-clause-others : goal.returns-clause-others
 returns-clause-others g c = let h = c.requires.may in let put = c.put_own_link.ensures.view h.right_is h.writer.one in let s = link_home c.args.link c.args.seat.now.me c.put_own_link.new.seat.me h put in
     rights_then c.args.seat.now.me.0 c.put_own_link.new.seat.me.0 c.empty_head-step.new.seat.me.0 (rights_only c.args.seat.now.me.0 c.put_own_link.new.seat.me.0 _ (ap (λ m. m.0) put))
     (rights_only c.put_own_link.new.seat.me.0 c.empty_head-step.new.seat.me.0 _ (ap (λ m. m.0) ((c.empty_head-step.ensures.view s.right_is s.writer.one).1 c.if-step-last.false).0))
+
+pub returns-then-step-last-clause-left : goal.returns-then-step-last-clause-left
+returns-then-step-last-clause-left g c = tt
+
+pub returns-clause-left : goal.returns-clause-left
+returns-clause-left g c = tt

@@ -15,7 +15,7 @@ store_place-requires-clause-may g c = let h = c.requires.may.0 in (
       stage = h.stage_is;
       taken = h.taken;
       away = h.has.away;
-      place_is = h.place_is;
+      place_is = ap (λ l. l.place) h.label_is;
       place_in = h.place_in;
       link_is = h.writer.link_is;
       places_are = sym h.has.places_are;
