@@ -85,9 +85,18 @@ fn run_words<
         return alone_over(rt, words, &mut links, errors);
     }
     if is_serve(words) {
-        return run_over(rt, words, &mut TcpLinker::new(rt, alloc), errors);
+        let mut links = TcpLinker::accepting(rt, alloc, connections(words));
+        return run_over(rt, words, &mut links, errors);
     }
     run_over(rt, words, &mut ProgLinker::new(rt, alloc), errors)
+}
+
+/// How many connections `serve PORT N` accepts; behind the last nobody listens any more. 256 where the words aren't these.
+fn connections(words: &[String]) -> u16 {
+    match words.get(2) {
+        Some(count) => count.as_str().parse::<u16>().unwrap_or(256),
+        None => 256,
+    }
 }
 
 /// Whether the first word is `serve`.
