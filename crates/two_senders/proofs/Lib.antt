@@ -1,0 +1,2 @@
+pub mod TextsInOrder
+pub mod Refusing
