@@ -39,7 +39,7 @@ pub fn run_program<
         + Net<Stream = TcpStream, Listener = TcpListener>,
     E: Print,
 >(rt: &R, errors: &E) -> ExitCode
-    ensures { (args : Result (IntoIter (String Global) Global) Error) × ((exit_status result ≡ 7) ⊎ EndsBy (EndsAlone ⟦<Shaped<MemOut> as Out>⟧.state ⟦<LoopIn as In>⟧.state ⟦<LoopLinker as Linker>⟧.tells_in) (Ends ⟦<ProgOut as Out>⟧.state ⟦<ProgIn as In>⟧.state ⟦<ProgLinker<&R> as Linker>⟧.tells_in) (Ends ⟦<TcpHalf as Out>⟧.state ⟦<TcpIn as In>⟧.state ⟦<TcpLinker<&R> as Linker>⟧.tells_in) (words_behind args) (exit_status result)) }
+    ensures { (args : Result (IntoIter (String Global) Global) Error) × ((exit_status result ≡ 7) ⊎ EndsBy (EndsAlone ⟦<Shaped<MemOut> as Out>⟧.state ⟦<LoopIn as In>⟧.state ⟦<LoopLinker as Linker>⟧.tells_in) (Ends ⟦<ProgOut as Out>⟧.state ⟦<ProgIn as In>⟧.state ⟦<ProgLinker<&'static R> as Linker>⟧.tells_in) (Ends ⟦<TcpHalf as Out>⟧.state ⟦<TcpIn as In>⟧.state ⟦<TcpLinker<&'static R> as Linker>⟧.tells_in) (words_behind args) (exit_status result)) }
 {
     run_arguments(rt, env::args(rt), errors)
 }
@@ -57,7 +57,7 @@ pub fn run_arguments<
         + Net<Stream = TcpStream, Listener = TcpListener>,
     E: Print,
 >(rt: &R, args: io::Result<Args>, errors: &E) -> ExitCode
-    ensures { (exit_status result ≡ 7) ⊎ EndsBy (EndsAlone ⟦<Shaped<MemOut> as Out>⟧.state ⟦<LoopIn as In>⟧.state ⟦<LoopLinker as Linker>⟧.tells_in) (Ends ⟦<ProgOut as Out>⟧.state ⟦<ProgIn as In>⟧.state ⟦<ProgLinker<&R> as Linker>⟧.tells_in) (Ends ⟦<TcpHalf as Out>⟧.state ⟦<TcpIn as In>⟧.state ⟦<TcpLinker<&R> as Linker>⟧.tells_in) (words_behind args) (exit_status result) }
+    ensures { (exit_status result ≡ 7) ⊎ EndsBy (EndsAlone ⟦<Shaped<MemOut> as Out>⟧.state ⟦<LoopIn as In>⟧.state ⟦<LoopLinker as Linker>⟧.tells_in) (Ends ⟦<ProgOut as Out>⟧.state ⟦<ProgIn as In>⟧.state ⟦<ProgLinker<&'static R> as Linker>⟧.tells_in) (Ends ⟦<TcpHalf as Out>⟧.state ⟦<TcpIn as In>⟧.state ⟦<TcpLinker<&'static R> as Linker>⟧.tells_in) (words_behind args) (exit_status result) }
 {
     match all_of(rt.alloc(), args) {
         Ok(args) => run_words(rt, behind_first(&args), errors),
@@ -77,7 +77,7 @@ fn run_words<
         + Net<Stream = TcpStream, Listener = TcpListener>,
     E: Print,
 >(rt: &R, words: &[String], errors: &E) -> ExitCode
-    ensures { EndsBy (EndsAlone ⟦<Shaped<MemOut> as Out>⟧.state ⟦<LoopIn as In>⟧.state ⟦<LoopLinker as Linker>⟧.tells_in) (Ends ⟦<ProgOut as Out>⟧.state ⟦<ProgIn as In>⟧.state ⟦<ProgLinker<&R> as Linker>⟧.tells_in) (Ends ⟦<TcpHalf as Out>⟧.state ⟦<TcpIn as In>⟧.state ⟦<TcpLinker<&R> as Linker>⟧.tells_in) (map string_bytes words.now) (exit_status result) }
+    ensures { EndsBy (EndsAlone ⟦<Shaped<MemOut> as Out>⟧.state ⟦<LoopIn as In>⟧.state ⟦<LoopLinker as Linker>⟧.tells_in) (Ends ⟦<ProgOut as Out>⟧.state ⟦<ProgIn as In>⟧.state ⟦<ProgLinker<&'static R> as Linker>⟧.tells_in) (Ends ⟦<TcpHalf as Out>⟧.state ⟦<TcpIn as In>⟧.state ⟦<TcpLinker<&'static R> as Linker>⟧.tells_in) (map string_bytes words.now) (exit_status result) }
 {
     let alloc = rt.alloc();
     if !may_wait(words) {
