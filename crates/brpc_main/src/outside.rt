@@ -29,7 +29,6 @@ const NO_MEMORY: u8 = 7;
 /// The program over its standard streams, with the arguments that it was started with: what std reads of these no contract says, so
 /// here they are some arguments, and `run_arguments` is the program at any.
 pub fn run_program<
-    'a,
     R: Threads
         + Wait
         + Sync
@@ -39,8 +38,8 @@ pub fn run_program<
         + Print
         + Net<Stream = TcpStream, Listener = TcpListener>,
     E: Print,
->(rt: &'a R, errors: &E) -> ExitCode
-    ensures { (args : Result (IntoIter (String Global) Global) Error) × ((exit_status result ≡ 7) ⊎ EndsBy (EndsAlone ⟦<Shaped<MemOut> as Out>⟧.state ⟦<LoopIn as In>⟧.state ⟦<LoopLinker as Linker>⟧.tells_in) (Ends ⟦<ProgOut as Out>⟧.state ⟦<ProgIn as In>⟧.state ⟦<ProgLinker<&'a R> as Linker>⟧.tells_in) (Ends ⟦<TcpHalf as Out>⟧.state ⟦<TcpIn as In>⟧.state ⟦<TcpLinker<&'a R> as Linker>⟧.tells_in) (words_behind args) (exit_status result)) }
+>(rt: &R, errors: &E) -> ExitCode
+    ensures { (args : Result (IntoIter (String Global) Global) Error) × ((exit_status result ≡ 7) ⊎ EndsBy (EndsAlone ⟦<Shaped<MemOut> as Out>⟧.state ⟦<LoopIn as In>⟧.state ⟦<LoopLinker as Linker>⟧.tells_in) (Ends ⟦<ProgOut as Out>⟧.state ⟦<ProgIn as In>⟧.state ⟦<ProgLinker<&'static R> as Linker>⟧.tells_in) (Ends ⟦<TcpHalf as Out>⟧.state ⟦<TcpIn as In>⟧.state ⟦<TcpLinker<&'static R> as Linker>⟧.tells_in) (words_behind args) (exit_status result)) }
 {
     run_arguments(rt, env::args(rt), errors)
 }
@@ -49,7 +48,6 @@ pub fn run_program<
 /// can't be had as text are no words. Where memory runs out for the list of words it ends with 7, and nothing is read, written or
 /// opened.
 pub fn run_arguments<
-    'a,
     R: Threads
         + Wait
         + Sync
@@ -58,8 +56,8 @@ pub fn run_arguments<
         + Print
         + Net<Stream = TcpStream, Listener = TcpListener>,
     E: Print,
->(rt: &'a R, args: io::Result<Args>, errors: &E) -> ExitCode
-    ensures { (exit_status result ≡ 7) ⊎ EndsBy (EndsAlone ⟦<Shaped<MemOut> as Out>⟧.state ⟦<LoopIn as In>⟧.state ⟦<LoopLinker as Linker>⟧.tells_in) (Ends ⟦<ProgOut as Out>⟧.state ⟦<ProgIn as In>⟧.state ⟦<ProgLinker<&'a R> as Linker>⟧.tells_in) (Ends ⟦<TcpHalf as Out>⟧.state ⟦<TcpIn as In>⟧.state ⟦<TcpLinker<&'a R> as Linker>⟧.tells_in) (words_behind args) (exit_status result) }
+>(rt: &R, args: io::Result<Args>, errors: &E) -> ExitCode
+    ensures { (exit_status result ≡ 7) ⊎ EndsBy (EndsAlone ⟦<Shaped<MemOut> as Out>⟧.state ⟦<LoopIn as In>⟧.state ⟦<LoopLinker as Linker>⟧.tells_in) (Ends ⟦<ProgOut as Out>⟧.state ⟦<ProgIn as In>⟧.state ⟦<ProgLinker<&'static R> as Linker>⟧.tells_in) (Ends ⟦<TcpHalf as Out>⟧.state ⟦<TcpIn as In>⟧.state ⟦<TcpLinker<&'static R> as Linker>⟧.tells_in) (words_behind args) (exit_status result) }
 {
     match all_of(rt.alloc(), args) {
         Ok(args) => run_words(rt, behind_first(&args), errors),
@@ -70,7 +68,6 @@ pub fn run_arguments<
 /// The program with these words, over links of the kind that they ask for: over TCP where they are `serve` ones, over rings or TCP
 /// where they are other ones that may wait, and else in memory.
 fn run_words<
-    'a,
     R: Threads
         + Wait
         + Sync
@@ -79,8 +76,8 @@ fn run_words<
         + Print
         + Net<Stream = TcpStream, Listener = TcpListener>,
     E: Print,
->(rt: &'a R, words: &[String], errors: &E) -> ExitCode
-    ensures { EndsBy (EndsAlone ⟦<Shaped<MemOut> as Out>⟧.state ⟦<LoopIn as In>⟧.state ⟦<LoopLinker as Linker>⟧.tells_in) (Ends ⟦<ProgOut as Out>⟧.state ⟦<ProgIn as In>⟧.state ⟦<ProgLinker<&'a R> as Linker>⟧.tells_in) (Ends ⟦<TcpHalf as Out>⟧.state ⟦<TcpIn as In>⟧.state ⟦<TcpLinker<&'a R> as Linker>⟧.tells_in) (map string_bytes words.now) (exit_status result) }
+>(rt: &R, words: &[String], errors: &E) -> ExitCode
+    ensures { EndsBy (EndsAlone ⟦<Shaped<MemOut> as Out>⟧.state ⟦<LoopIn as In>⟧.state ⟦<LoopLinker as Linker>⟧.tells_in) (Ends ⟦<ProgOut as Out>⟧.state ⟦<ProgIn as In>⟧.state ⟦<ProgLinker<&'static R> as Linker>⟧.tells_in) (Ends ⟦<TcpHalf as Out>⟧.state ⟦<TcpIn as In>⟧.state ⟦<TcpLinker<&'static R> as Linker>⟧.tells_in) (map string_bytes words.now) (exit_status result) }
 {
     let alloc = rt.alloc();
     if !may_wait(words) {
