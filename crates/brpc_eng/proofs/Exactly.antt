@@ -21,7 +21,7 @@ use Rattle.script_links.specs.OfferedLinks.{TellOffers}
 use Rattle.script_run.specs.Played.{TellClosed}
 use Rattle.serve_port.specs.ServingConnections.{ServedConnection}
 use Rattle.brpc_eng.specs.WholeSourceRead.{script_limit, IsAtEnd}
-use Rattle.brpc_eng.specs.ProgramAnswers.{HaveRisen, StandStill, AllTell, edges_of, Input, Output, Links, TextWritten, Ran, Reported, MemoryRanOut, OpenFailed, RanOnThreads, ThreadsReported, ThreadsRanOut, ThreadsNotOpened, ScriptEnd, FaultWritten, Replayed, RanScript, FaultyScript, SourceFailed, TooLong, NoMemory, Answers, NoCommand, Generated, Generates, LoadRan, LoadSummed, LoadRanOut, LoadNotOpened, Loads, PrintsInput, Replays, Simulates, RunsOnThreads, ServeEnds, ServedWhole, NotAccepted, ConnectionFailed, MetFault, ServeRanOut, ServesPort, frames_status, FramesPrinted}
+use Rattle.brpc_eng.specs.ProgramAnswers.{HaveRisen, StandStill, AllTell, edges_of, Input, Output, Links, TextWritten, Ran, Reported, MemoryRanOut, OpenFailed, RanOnThreads, ThreadsReported, ThreadsRanOut, ThreadsNotOpened, ScriptEnd, FaultWritten, Replayed, RanScript, FaultyScript, SourceFailed, TooLong, NoMemory, Answers, Alone, AcceptedNone, EndsAlone, NoCommand, Generated, Generates, LoadRan, LoadSummed, LoadRanOut, LoadNotOpened, Loads, PrintsInput, Replays, Simulates, RunsOnThreads, ServeEnds, ServedWhole, NotAccepted, ConnectionFailed, MetFault, ServeRanOut, ServesPort, frames_status, FramesPrinted}
 
 -- ## Status 2
 
@@ -74,18 +74,31 @@ not_two_served count served out links status (ConnectionFailed s failing wrote) 
 not_two_served count served out links status (MetFault s fine faulty wrote) = λ e. absurd (omega (arith, e, s))
 not_two_served count served out links status (ServeRanOut s fine clean wrote) = λ e. absurd (omega (arith, e, s))
 
--- the words ask for no command exactly where the status is 2
-pub usage_exactly : (words : List (List ℕ)) (input : Input) (out : Output) (links : Links) (status : ℕ) → Answers words input out links status →
+alone_exactly : (usage : List ℕ) (words : List (List ℕ)) (input : Input) (out : Output) (links : Links) (status : ℕ) → EndsAlone usage words input out links status →
     (status ≡ 2 → command_of words ≡ None) × (command_of words ≡ None → status ≡ 2)
-usage_exactly words input out links status (NoCommand s none same back wrote) = (λ e. none, λ e. s)
-usage_exactly words input out links status (Generates seed clients count is same back made) = (λ e. absurd (not_two_made seed clients count out status made e), λ e. absurd (cc))
-usage_exactly words input out links status (Loads seed clients count is same made) = (λ e. absurd (not_two_loaded seed clients count out links status made.ran e), λ e. absurd (cc))
-usage_exactly words input out links status (PrintsInput is back printed) = (λ e. absurd (not_two_ended printed.ended status printed.numbered e), λ e. absurd (cc))
-usage_exactly words input out links status (Replays is replayed) = (λ e. absurd (not_two _ input out links replayed.bytes status (λ script ran. not_two_ran _ script out links status ran) replayed.replayed e), λ e. absurd (cc))
-usage_exactly words input out links status (Simulates seed is replayed) = (λ e. absurd (not_two _ input out links replayed.bytes status (λ script ran. not_two_ran _ script out links status ran) replayed.replayed e), λ e. absurd (cc))
-usage_exactly words input out links status (RunsOnThreads port is replayed) =
+alone_exactly usage words input out links status (NoCommand s none same back wrote) = (λ e. none, λ e. s)
+alone_exactly usage words input out links status (Generates seed clients count is same back made) = (λ e. absurd (not_two_made seed clients count out status made e), λ e. absurd (cc))
+alone_exactly usage words input out links status (Loads seed clients count is same made) = (λ e. absurd (not_two_loaded seed clients count out links status made.ran e), λ e. absurd (cc))
+alone_exactly usage words input out links status (PrintsInput is back printed) = (λ e. absurd (not_two_ended printed.ended status printed.numbered e), λ e. absurd (cc))
+alone_exactly usage words input out links status (Replays is replayed) = (λ e. absurd (not_two _ input out links replayed.bytes status (λ script ran. not_two_ran _ script out links status ran) replayed.replayed e), λ e. absurd (cc))
+alone_exactly usage words input out links status (Simulates seed is replayed) = (λ e. absurd (not_two _ input out links replayed.bytes status (λ script ran. not_two_ran _ script out links status ran) replayed.replayed e), λ e. absurd (cc))
+
+-- the words ask for no command exactly where the status is 2
+pub usage_exactly : (usage : List ℕ) (words : List (List ℕ)) (input : Input) (out : Output) (links : Links) (status : ℕ) → Answers usage words input out links status →
+    (status ≡ 2 → command_of words ≡ None) × (command_of words ≡ None → status ≡ 2)
+usage_exactly usage words input out links status (Alone alone) = alone_exactly usage words input out links status alone.ends
+usage_exactly usage words input out links status (RunsOnThreads port is none replayed) =
     (λ e. absurd (not_two _ input out links replayed.bytes status (λ script ran. not_two_threads script out links status ran) replayed.replayed e), λ e. absurd (cc))
-usage_exactly words input out links status (ServesPort port count is same served) = (λ e. absurd (not_two_served count served.served out links status served.ended e), λ e. absurd (cc))
+usage_exactly usage words input out links status (ServesPort port count is same served) = (λ e. absurd (not_two_served count served.served out links status served.ended e), λ e. absurd (cc))
+
+-- ## Connections
+
+-- words that don't ask for a port to be served have none accepted
+pub accepts_none : (usage : List ℕ) (words : List (List ℕ)) (input : Input) (out : Output) (links : Links) (status : ℕ) → Answers usage words input out links status →
+    ((port count : ℕ) → command_of words ≢ Some (Serve port count)) → AcceptedNone links
+accepts_none usage words input out links status (Alone alone) other = alone.accepted_none
+accepts_none usage words input out links status (RunsOnThreads port is none replayed) other = none
+accepts_none usage words input out links status (ServesPort port count is same served) other = absurd (other port count is)
 
 -- ## A report, or want of memory
 
@@ -137,30 +150,35 @@ RunsScript (Sim seed) = Unit {0}
 RunsScript (Run port) = Unit {0}
 RunsScript other = ⊥
 
--- `replay`, `sim` and `run` of a script, whatever its lines, end with its report or for want of memory, where there is no fault of the outside
-pub report_comes : (script : List Item) (given : List ℕ) (words : List (List ℕ)) (input : Input) (out : Output) (links : Links) (status : ℕ) (command : Command) → Answers words input out links status →
+alone_comes : (script : List Item) (given : List ℕ) (usage : List ℕ) (words : List (List ℕ)) (input : Input) (out : Output) (links : Links) (status : ℕ) (command : Command) → EndsAlone usage words input out links status →
     command_of words ≡ Some command → RunsScript command → input.given ≡ Some given → length given ≤ script_limit → script_of given ≡ Ok script → IsCalm input out links →
     (status ≡ 0) ⊎ (status ≡ 7)
-report_comes script given words input out links status command (NoCommand s none same back wrote) asked runs told few is calm = absurd (cc)
-report_comes script given words input out links status command (Generates seed clients count named same back made) asked runs told few is calm =
+alone_comes script given usage words input out links status command (NoCommand s none same back wrote) asked runs told few is calm = absurd (cc)
+alone_comes script given usage words input out links status command (Generates seed clients count named same back made) asked runs told few is calm =
     let one : Some (Gen seed clients count) ≡ Some command = sym named ∙ asked in
     let alike : Gen seed clients count ≡ command = cc in absurd (subst RunsScript (sym alike) runs)
-report_comes script given words input out links status command (Loads seed clients count named same made) asked runs told few is calm =
+alone_comes script given usage words input out links status command (Loads seed clients count named same made) asked runs told few is calm =
     let one : Some (Load seed clients count) ≡ Some command = sym named ∙ asked in
     let alike : Load seed clients count ≡ command = cc in absurd (subst RunsScript (sym alike) runs)
-report_comes script given words input out links status command (PrintsInput named back printed) asked runs told few is calm =
+alone_comes script given usage words input out links status command (PrintsInput named back printed) asked runs told few is calm =
     let one : Some Frames ≡ Some command = sym named ∙ asked in
     let alike : Frames ≡ command = cc in absurd (subst RunsScript (sym alike) runs)
-report_comes script given words input out links status command (Replays named replayed) asked runs told few is calm =
+alone_comes script given usage words input out links status command (Replays named replayed) asked runs told few is calm =
     let P : Option (List ℕ) → Type 0 = λ x. Consumes x input.left replayed.bytes in
     calm_replayed _ script given input out links replayed.bytes status calm (subst P told replayed.came) few is (λ read alike ran. calm_ran _ read input out links status calm ran) replayed.replayed
-report_comes script given words input out links status command (Simulates seed named replayed) asked runs told few is calm =
+alone_comes script given usage words input out links status command (Simulates seed named replayed) asked runs told few is calm =
     let P : Option (List ℕ) → Type 0 = λ x. Consumes x input.left replayed.bytes in
     calm_replayed _ script given input out links replayed.bytes status calm (subst P told replayed.came) few is (λ read alike ran. calm_ran _ read input out links status calm ran) replayed.replayed
-report_comes script given words input out links status command (RunsOnThreads port named replayed) asked runs told few is calm =
+
+-- `replay`, `sim` and `run` of a script, whatever its lines, end with its report or for want of memory, where there is no fault of the outside
+pub report_comes : (script : List Item) (given : List ℕ) (usage : List ℕ) (words : List (List ℕ)) (input : Input) (out : Output) (links : Links) (status : ℕ) (command : Command) → Answers usage words input out links status →
+    command_of words ≡ Some command → RunsScript command → input.given ≡ Some given → length given ≤ script_limit → script_of given ≡ Ok script → IsCalm input out links →
+    (status ≡ 0) ⊎ (status ≡ 7)
+report_comes script given usage words input out links status command (Alone alone) asked runs told few is calm = alone_comes script given usage words input out links status command alone.ends asked runs told few is calm
+report_comes script given usage words input out links status command (RunsOnThreads port named none replayed) asked runs told few is calm =
     let P : Option (List ℕ) → Type 0 = λ x. Consumes x input.left replayed.bytes in
     calm_replayed _ script given input out links replayed.bytes status calm (subst P told replayed.came) few is (λ read alike ran. calm_threads read input out links status calm ran) replayed.replayed
-report_comes script given words input out links status command (ServesPort port count named same served) asked runs told few is calm =
+report_comes script given usage words input out links status command (ServesPort port count named same served) asked runs told few is calm =
     let one : Some (Serve port count) ≡ Some command = sym named ∙ asked in
     let alike : Serve port count ≡ command = cc in absurd (subst RunsScript (sym alike) runs)
 
@@ -211,17 +229,20 @@ still_served count served out links status (ConnectionFailed s failing wrote) e 
 still_served count served out links status (MetFault s fine faulty wrote) e = wrote.1
 still_served count served out links status (ServeRanOut s fine clean wrote) e = wrote.1
 
+none_failed_alone : (usage : List ℕ) (words : List (List ℕ)) (input : Input) (out : Output) (links : Links) (status : ℕ) → EndsAlone usage words input out links status → status ≡ 0 → StandStill out.faults
+none_failed_alone usage words input out links status (NoCommand s none same back wrote) e = absurd (omega (arith, e, s))
+none_failed_alone usage words input out links status (Generates seed clients count named same back (inl w)) e = still_written out _ status w e
+none_failed_alone usage words input out links status (Generates seed clients count named same back (inr w)) e = w.1.1
+none_failed_alone usage words input out links status (Loads seed clients count named same made) e = still_loaded seed clients count out links status made.ran e
+none_failed_alone usage words input out links status (PrintsInput named back printed) e = still_ended input out printed.printed.bytes printed.ended status printed.numbered printed.printed.ended e
+none_failed_alone usage words input out links status (Replays named replayed) e = still_replayed _ input out links replayed.bytes status (λ script ran e. still_ran _ script out links status ran e) replayed.replayed e
+none_failed_alone usage words input out links status (Simulates seed named replayed) e = still_replayed _ input out links replayed.bytes status (λ script ran e. still_ran _ script out links status ran e) replayed.replayed e
+
 -- with 0 the sink's count stands still
-pub no_write_failed : (words : List (List ℕ)) (input : Input) (out : Output) (links : Links) (status : ℕ) → Answers words input out links status → status ≡ 0 → StandStill out.faults
-no_write_failed words input out links status (NoCommand s none same back wrote) e = absurd (omega (arith, e, s))
-no_write_failed words input out links status (Generates seed clients count named same back (inl w)) e = still_written out _ status w e
-no_write_failed words input out links status (Generates seed clients count named same back (inr w)) e = w.1.1
-no_write_failed words input out links status (Loads seed clients count named same made) e = still_loaded seed clients count out links status made.ran e
-no_write_failed words input out links status (PrintsInput named back printed) e = still_ended input out printed.printed.bytes printed.ended status printed.numbered printed.printed.ended e
-no_write_failed words input out links status (Replays named replayed) e = still_replayed _ input out links replayed.bytes status (λ script ran e. still_ran _ script out links status ran e) replayed.replayed e
-no_write_failed words input out links status (Simulates seed named replayed) e = still_replayed _ input out links replayed.bytes status (λ script ran e. still_ran _ script out links status ran e) replayed.replayed e
-no_write_failed words input out links status (RunsOnThreads port named replayed) e = still_replayed _ input out links replayed.bytes status (λ script ran e. still_threads script out links status ran e) replayed.replayed e
-no_write_failed words input out links status (ServesPort port count named same served) e = still_served count served.served out links status served.ended e
+pub no_write_failed : (usage : List ℕ) (words : List (List ℕ)) (input : Input) (out : Output) (links : Links) (status : ℕ) → Answers usage words input out links status → status ≡ 0 → StandStill out.faults
+no_write_failed usage words input out links status (Alone alone) e = none_failed_alone usage words input out links status alone.ends e
+no_write_failed usage words input out links status (RunsOnThreads port named none replayed) e = still_replayed _ input out links replayed.bytes status (λ script ran e. still_threads script out links status ran e) replayed.replayed e
+no_write_failed usage words input out links status (ServesPort port count named same served) e = still_served count served.served out links status served.ended e
 
 -- ## One text
 

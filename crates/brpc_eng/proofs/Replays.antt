@@ -1,15 +1,17 @@
 -- How `replay` ends, by what its calls say.
-use Rattle.std.proofs.Common.{◌≡◌, ◌≢◌, ℕ, ◌≤◌, inl, inr, List, length, Option, Some, Vec, Result, Ok, Err, IsErrOf, refl, ap, sym, ◌∙◌, subst, arith, option_map}
+use Rattle.std.proofs.Common.{◌≡◌, ◌≢◌, Bool, true, false, unwrap_or, is_some, IfSome, IfNone, ℕ, ◌≤◌, inl, inr, List, length, Option, Some, None, Vec, Result, Ok, Err, IsErrOf, refl, ap, sym, ◌∙◌, subst, arith, option_map}
 use Rattle.std.specs.declared.alloc.Global.{Global}
 use Rattle.brpc_model.specs.Items.{Item}
 use Rattle.brpc_model.specs.Script.{script_of}
 use Rattle.brpc_eng.specs.CommandWords as model
 use Rattle.brpc_eng.specs.declared.commands.Command.{Command}
 use Rattle.brpc_eng.specs.declared.draw.Draw.{Draw}
-use Rattle.brpc_eng.specs.declared.commands.Command.TheVariants.{Sim, Run, Gen, Load, Frames}
+use Rattle.brpc_eng.specs.declared.commands.Command.TheVariants.{Sim, Gen, Load, Frames}
+use Rattle.brpc_eng.specs.declared.commands.Waiting.{Waiting}
+use Rattle.brpc_eng.specs.declared.commands.Waiting.TheVariants.{Run, Serve}
 use Rattle.sock_io.specs.declared.link.Mode.{Mode}
 use Rattle.seat_programs.specs.ScriptSetupToEnding.{drawn_turns}
-use Rattle.brpc_eng.specs.Command.{meaning}
+use Rattle.brpc_eng.specs.Command.{meaning, waiting_meaning}
 use Rattle.brpc_eng.specs.WholeSourceRead.{script_limit, IsAtEnd, ReadWhole}
 use Rattle.brpc_eng.specs.declared.input.NoScript.{NoScript}
 use Rattle.brpc_eng.specs.declared.input.NoScript.TheVariants.{Unread, Faulty}
@@ -74,32 +76,41 @@ replays_none ran input out links status (Unread unread.NoMemory) came failed non
 
 -- ## The words
 
+-- what may wait is what words that ask for it mean
+pub waiting_waits : (words : List (List ℕ)) (waiting : Waiting) → model.command_of words ≡ Some (waiting_meaning waiting) → model.asks_to_wait words ≡ true
+waiting_waits words (Run port) e = ap (λ c. unwrap_or (option_map model.waits c) false) e
+waiting_waits words (Serve doors) e = ap (λ c. unwrap_or (option_map model.waits c) false) e
+
+pub asked_is : (words : List (List ℕ)) (found : Option Waiting) → IfSome found (λ waiting. model.command_of words ≡ Some (waiting_meaning waiting)) → IfNone found (model.asks_to_wait words ≡ false) → is_some found ≡ model.asks_to_wait words
+asked_is words None some_ none_ = sym none_
+asked_is words (Some waiting) some_ none_ = sym (waiting_waits words waiting some_)
+
 -- a drawn script
-pub drawn_command : (words : List (List ℕ)) (input : answer.Input) (out : answer.Output) (links : answer.Links) (status : ℕ) (command : Command) (draw : Draw) → option_map meaning (Some command) ≡ model.command_of words → command ≡ Gen draw →
-    input.left ≡ input.given → answer.OpenedNone links → answer.Generated draw.seed draw.clients draw.operations out status → answer.Answers words input out links status
-drawn_command words input out links status command draw e is same back made =
+pub drawn_command : (usage : List ℕ) (words : List (List ℕ)) (input : answer.Input) (out : answer.Output) (links : answer.Links) (status : ℕ) (command : Command) (draw : Draw) → option_map meaning (Some command) ≡ model.command_of words → command ≡ Gen draw →
+    input.left ≡ input.given → answer.OpenedNone links → answer.Generated draw.seed draw.clients draw.operations out status → answer.EndsAlone usage words input out links status
+drawn_command usage words input out links status command draw e is same back made =
     answer.Generates draw.seed draw.clients draw.operations (sym e ∙ ap (λ c. option_map meaning (Some c)) is) same back made
 
 -- a summary of its run
-pub load_command : (words : List (List ℕ)) (input : answer.Input) (out : answer.Output) (links : answer.Links) (status : ℕ) (command : Command) (draw : Draw) → option_map meaning (Some command) ≡ model.command_of words → command ≡ Load draw →
-    input.left ≡ input.given → answer.Loaded draw.seed draw.clients draw.operations out links status → answer.Answers words input out links status
-load_command words input out links status command draw e is same made =
+pub load_command : (usage : List ℕ) (words : List (List ℕ)) (input : answer.Input) (out : answer.Output) (links : answer.Links) (status : ℕ) (command : Command) (draw : Draw) → option_map meaning (Some command) ≡ model.command_of words → command ≡ Load draw →
+    input.left ≡ input.given → answer.Loaded draw.seed draw.clients draw.operations out links status → answer.EndsAlone usage words input out links status
+load_command usage words input out links status command draw e is same made =
     answer.Loads draw.seed draw.clients draw.operations (sym e ∙ ap (λ c. option_map meaning (Some c)) is) same made
 
 -- the frames of the input
-pub frames_command : (words : List (List ℕ)) (input : answer.Input) (out : answer.Output) (links : answer.Links) (status : ℕ) (command : Command) → option_map meaning (Some command) ≡ model.command_of words → command ≡ Frames →
-    answer.OpenedNone links → answer.FramesPrinted input out status → answer.Answers words input out links status
-frames_command words input out links status command e is back printed = answer.PrintsInput (sym e ∙ ap (λ c. option_map meaning (Some c)) is) back printed
+pub frames_command : (usage : List ℕ) (words : List (List ℕ)) (input : answer.Input) (out : answer.Output) (links : answer.Links) (status : ℕ) (command : Command) → option_map meaning (Some command) ≡ model.command_of words → command ≡ Frames →
+    answer.OpenedNone links → answer.FramesPrinted input out status → answer.EndsAlone usage words input out links status
+frames_command usage words input out links status command e is back printed = answer.PrintsInput (sym e ∙ ap (λ c. option_map meaning (Some c)) is) back printed
 
 -- a simulation
-pub simulated : (words : List (List ℕ)) (input : answer.Input) (out : answer.Output) (links : answer.Links) (status : ℕ) (command : Command) (seed drawn : ℕ) → option_map meaning (Some command) ≡ model.command_of words → command ≡ Sim seed →
-    drawn ≡ seed → answer.ReplayedInput answer.in_memory (answer.by_turns (λ script. drawn_turns script drawn)) input out links status → answer.Answers words input out links status
-simulated words input out links status command seed drawn e is same replayed = answer.Simulates drawn (sym e ∙ ap (λ c. option_map meaning (Some c)) (is ∙ ap Sim (sym same))) replayed
+pub simulated : (usage : List ℕ) (words : List (List ℕ)) (input : answer.Input) (out : answer.Output) (links : answer.Links) (status : ℕ) (command : Command) (seed drawn : ℕ) → option_map meaning (Some command) ≡ model.command_of words → command ≡ Sim seed →
+    drawn ≡ seed → answer.ReplayedInput answer.in_memory (answer.by_turns (λ script. drawn_turns script drawn)) input out links status → answer.EndsAlone usage words input out links status
+simulated usage words input out links status command seed drawn e is same replayed = answer.Simulates drawn (sym e ∙ ap (λ c. option_map meaning (Some c)) (is ∙ ap Sim (sym same))) replayed
 
 -- a run on threads
-pub threaded : (words : List (List ℕ)) (input : answer.Input) (out : answer.Output) (links : answer.Links) (status : ℕ) (command : Command) (port : Option ℕ) → option_map meaning (Some command) ≡ model.command_of words → command ≡ Run port →
-    answer.ReplayedInput (answer.run_mode port) (answer.RanOnThreads (answer.run_mode port)) input out links status → answer.Answers words input out links status
-threaded words input out links status command port e is replayed = answer.RunsOnThreads port (sym e ∙ ap (λ c. option_map meaning (Some c)) is) replayed
+pub threaded : (usage : List ℕ) (words : List (List ℕ)) (input : answer.Input) (out : answer.Output) (links : answer.Links) (status : ℕ) (waiting : Waiting) (port : Option ℕ) → model.command_of words ≡ Some (waiting_meaning waiting) → waiting ≡ Run port → answer.AcceptedNone links →
+    answer.ReplayedInput (answer.run_mode port) (answer.RanOnThreads (answer.run_mode port)) input out links status → answer.Answers usage words input out links status
+threaded usage words input out links status waiting port e is none_ replayed = answer.RunsOnThreads port (e ∙ ap (λ w. Some (waiting_meaning w)) is) none_ replayed
 
 -- ## The frames
 

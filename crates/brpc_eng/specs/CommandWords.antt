@@ -1,5 +1,5 @@
 -- The words of the command line: which of the commands they ask for.
-use Rattle.std.specs.Prelude.{ℕ, ◌*◌, nat_le, if◌then◌else◌, List, [], ◌∷◌, codes, bytes_eq, Option, Some, None, option_map, option_and_then}
+use Rattle.std.specs.Prelude.{ℕ, Bool, true, false, ◌*◌, nat_le, if◌then◌else◌, List, [], ◌∷◌, codes, bytes_eq, Option, Some, None, option_map, option_and_then, unwrap_or}
 use Rattle.brpc_model.specs.NumberInRange.{number}
 
 -- what the program is asked to do
@@ -63,6 +63,14 @@ command_of (word ∷ more) =
     else if bytes_eq word (codes "serve") then serve_of more
     else None
 
--- what is printed where they ask for none
-abbrev pub usage_text : List ℕ
-usage_text = codes "usage: replay | sim SEED | run [PORT] | gen SEED CLIENTS OPS | load SEED CLIENTS OPS | frames | serve PORT N\n"
+-- ## Commands that wait
+
+-- a command that may wait for ever: `run` for its clients, `serve` for its connections
+abbrev pub waits : Command → Bool
+waits (Run port) = true
+waits (Serve port count) = true
+waits other = false
+
+-- the words ask for such a command
+abbrev pub asks_to_wait : List (List ℕ) → Bool
+asks_to_wait words = unwrap_or (option_map waits (command_of words)) false

@@ -3,7 +3,7 @@ use Rattle.std.specs.Prelude.{ℕ, ◌≡◌, ◌≢◌, ◌<◌, ◌≤◌, ◌
 use Rattle.std.specs.declared.alloc.Global.{Global}
 use Rattle.std.specs.Io.KnownBytes.{Appends, Consumes}
 use Rattle.std.specs.List.{AllByRecursion}
-use Rattle.brpc_eng.specs.CommandWords.{Replay, Sim, Run, Gen, Load, Frames, Serve, command_of, usage_text}
+use Rattle.brpc_eng.specs.CommandWords.{Replay, Sim, Run, Gen, Load, Frames, Serve, command_of}
 use Rattle.brpc_model.specs.ScriptText.{script_text}
 use Rattle.brpc_model.specs.DrawnSeatsAndScripts.{generated}
 use Rattle.brpc_model.specs.Items.{Item}
@@ -106,6 +106,10 @@ OpenedNone links = (links.asked ≡ []) × (links.ends ≡ [])
 -- no link was opened, no connection accepted, and none given back
 abbrev pub UnusedLinker : LinkerState → Type 0
 UnusedLinker links = OpenedNothing links × (links.accepted ≡ 0) × (links.done ≡ [])
+
+-- over a call no connection was accepted, and none given back
+abbrev pub AcceptedNone : Links → Type 0
+AcceptedNone links = (links.accepted ≡ 0) × (links.done ≡ [])
 
 -- the links that the lines of a script ask for were opened as they ask, in this mode, all of them where a report was written or begun, else the
 -- first of them; and each is given back, in order
@@ -323,24 +327,34 @@ pub record ServedPort (count : ℕ) (out : Output) (links : Links) (status : ℕ
 
 -- ## The program
 
--- why the program ends with a status
-pub data Answers (words : List (List ℕ)) (input : Input) (out : Output) (links : Links) (status : ℕ) : Type 0 where
+-- how a command ends that waits for nobody, and what other words are told: this usage text
+pub data EndsAlone (usage : List ℕ) (words : List (List ℕ)) (input : Input) (out : Output) (links : Links) (status : ℕ) : Type 0 where
   -- the words ask for no command, and nothing is read
-  NoCommand : status ≡ 2 → command_of words ≡ None → input.left ≡ input.given → OpenedNone links → Wrote out usage_text → Answers words input out links status
+  NoCommand : status ≡ 2 → command_of words ≡ None → input.left ≡ input.given → OpenedNone links → Wrote out usage → EndsAlone usage words input out links status
   -- they ask for a drawn script, and nothing is read
-  Generates : (seed clients count : ℕ) → command_of words ≡ Some (Gen seed clients count) → input.left ≡ input.given → OpenedNone links → Generated seed clients count out status → Answers words input out links status
+  Generates : (seed clients count : ℕ) → command_of words ≡ Some (Gen seed clients count) → input.left ≡ input.given → OpenedNone links → Generated seed clients count out status → EndsAlone usage words input out links status
   -- they ask for a summary of its run, and nothing is read
-  Loads : (seed clients count : ℕ) → command_of words ≡ Some (Load seed clients count) → input.left ≡ input.given → Loaded seed clients count out links status → Answers words input out links status
+  Loads : (seed clients count : ℕ) → command_of words ≡ Some (Load seed clients count) → input.left ≡ input.given → Loaded seed clients count out links status → EndsAlone usage words input out links status
   -- they ask for the frames of the input
-  PrintsInput : command_of words ≡ Some Frames → OpenedNone links → FramesPrinted input out status → Answers words input out links status
+  PrintsInput : command_of words ≡ Some Frames → OpenedNone links → FramesPrinted input out status → EndsAlone usage words input out links status
   -- they ask for a run of the script by its own schedule
-  Replays : command_of words ≡ Some Replay → ReplayedInput in_memory (by_turns schedule) input out links status → Answers words input out links status
+  Replays : command_of words ≡ Some Replay → ReplayedInput in_memory (by_turns schedule) input out links status → EndsAlone usage words input out links status
   -- or by one that is drawn from a seed
-  Simulates : (seed : ℕ) → command_of words ≡ Some (Sim seed) → ReplayedInput in_memory (by_turns (λ script. drawn_turns script seed)) input out links status → Answers words input out links status
-  -- or on threads, whatever its schedule, over rings or over TCP, which are read beside its clients
-  RunsOnThreads : (port : Option ℕ) → command_of words ≡ Some (Run port) → ReplayedInput (run_mode port) (RanOnThreads (run_mode port)) input out links status → Answers words input out links status
+  Simulates : (seed : ℕ) → command_of words ≡ Some (Sim seed) → ReplayedInput in_memory (by_turns (λ script. drawn_turns script seed)) input out links status → EndsAlone usage words input out links status
+
+-- so it ends, and no connection is accepted
+pub record AnswersAlone (usage : List ℕ) (words : List (List ℕ)) (input : Input) (out : Output) (links : Links) (status : ℕ) : Type 0 where
+  pub ends : EndsAlone usage words input out links status
+  pub accepted_none : AcceptedNone links
+
+-- why the program ends with a status
+pub data Answers (usage : List ℕ) (words : List (List ℕ)) (input : Input) (out : Output) (links : Links) (status : ℕ) : Type 0 where
+  -- the words ask for a command that waits for nobody, or for none
+  Alone : AnswersAlone usage words input out links status → Answers usage words input out links status
+  -- they ask for a run of the script on threads, whatever its schedule, over rings or over TCP, which are read beside its clients; no connection is accepted
+  RunsOnThreads : (port : Option ℕ) → command_of words ≡ Some (Run port) → AcceptedNone links → ReplayedInput (run_mode port) (RanOnThreads (run_mode port)) input out links status → Answers usage words input out links status
   -- they ask for so many connections to be served at a port, and nothing is read
-  ServesPort : (port count : ℕ) → command_of words ≡ Some (Serve port count) → input.left ≡ input.given → ServedPort count out links status → Answers words input out links status
+  ServesPort : (port count : ℕ) → command_of words ≡ Some (Serve port count) → input.left ≡ input.given → ServedPort count out links status → Answers usage words input out links status
 
 -- ## The counts of the source and the linker
 

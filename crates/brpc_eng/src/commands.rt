@@ -1,7 +1,7 @@
-ghost use Rattle.std.specs.Prelude.{◌≡◌, ◌∷◌, [], ◌≤◌, map, string_bytes, option_map, IfSome, IfNone, ℕ};
-ghost use Rattle.brpc_eng.specs.CommandWords.{command_of, sim_of, run_of, drawn_of, serve_of};
+ghost use Rattle.std.specs.Prelude.{◌≡◌, ◌∷◌, [], ◌≤◌, map, string_bytes, option_map, IfSome, IfNone, Some, ℕ, false};
+ghost use Rattle.brpc_eng.specs.CommandWords.{command_of, asks_to_wait, sim_of, run_of, drawn_of, serve_of};
 ghost use Rattle.brpc_eng.specs.CommandWords as model;
-ghost use Rattle.brpc_eng.specs.Command.{meaning};
+ghost use Rattle.brpc_eng.specs.Command.{meaning, waiting_meaning};
 
 use crate::doors::Doors;
 use crate::draw::Draw;
@@ -23,6 +23,15 @@ pub enum Command {
     /// `frames`: the frames of the input are printed.
     Frames,
     /// `serve PORT N`: so many connections are served.
+    Serve(Doors),
+}
+
+/// Those of them that may wait for ever.
+#[derive(Clone, Copy)]
+pub enum Waiting {
+    /// `run [PORT]`: for the clients of the script.
+    Run(Option<u16>),
+    /// `serve PORT N`: for the connections.
     Serve(Doors),
 }
 
@@ -144,4 +153,24 @@ pub fn read_command(words: &[String]) -> Option<Command>
     } else {
         None
     }
+}
+
+/// The command that may wait, where the words ask for one.
+pub fn read_waiting(words: &[String]) -> Option<Waiting>
+    ensures some { IfSome result (λ waiting. command_of (map string_bytes words.now) ≡ Some (waiting_meaning waiting)) }
+    ensures none { IfNone result (asks_to_wait (map string_bytes words.now) ≡ false) }
+{
+    match read_command(words)? {
+        Command::Run(port) => Some(Waiting::Run(port)),
+        Command::Serve(doors) => Some(Waiting::Serve(doors)),
+        Command::Replay | Command::Sim(_) | Command::Frames => None,
+        Command::Gen(_) | Command::Load(_) => None,
+    }
+}
+
+/// Whether the words ask for a command that may wait for ever.
+pub fn asks_to_wait(words: &[String]) -> bool
+    ensures { result ≡ asks_to_wait (map string_bytes words.now) }
+{
+    read_waiting(words).is_some()
 }

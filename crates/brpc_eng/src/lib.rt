@@ -1,6 +1,7 @@
-//! The top call: all that the program does, over a source, a sink and links that are handed in.
+//! The commands of the program: all that each does, over a source, a sink and links that are handed in.
 #![tactic(auto)]
 
+mod alone;
 mod commands;
 mod doors;
 mod draw;
@@ -16,4 +17,6 @@ mod status;
 mod streams;
 mod threads;
 
+pub use alone::brpc_alone;
+pub use commands::asks_to_wait;
 pub use engine::brpc;

@@ -2,6 +2,7 @@ ghost use Rattle.std.specs.Prelude.{◌≡◌, ◌≢◌, ◌<◌, ◌^◌, Ok, 
 ghost use Rattle.brpc_model.specs.DrawnSeatsAndScripts.{generated};
 ghost use Rattle.brpc_model.specs.Script.{script_of};
 ghost use Rattle.brpc_model.specs.ScriptText.{script_text};
+ghost use Rattle.script_links.specs.LinksGivenBack.{SameConnections};
 ghost use Rattle.script_links.specs.OfferedLinks.{TellOffers};
 ghost use Rattle.script_run.specs.Played.{TellClosed};
 ghost use Rattle.brpc_eng.specs.StatusNumbers.{number_of};
@@ -32,6 +33,7 @@ pub fn load<K: Sink, L: Linker>(alloc: Global, draw: &Draw, out: &mut K, links: 
     requires unopened { OpenedNothing (L.state links.old) }
     ensures loaded { Loaded draw.now.seed draw.now.clients draw.now.operations (sink_over (K.state out.old) (K.state out.new)) (linker_over (TellClosed L.I.state) (TellOffers L.O.state L.I.state) L.tells_in (L.state links.old) (L.state links.new)) (number_of result) }
     ensures linker { number_of result ≢ 8 → (L.state links.new).faults ≡ (L.state links.old).faults }
+    ensures connections { SameConnections (L.state links.old) (L.state links.new) }
 {
     let seed = u64::from(draw.seed);
     let Ok(script) = drawn_script(alloc, seed, draw) else {

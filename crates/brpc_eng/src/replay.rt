@@ -1,4 +1,5 @@
 ghost use Rattle.script_links.specs.OfferedLinks.{TellOffers};
+ghost use Rattle.script_links.specs.LinksGivenBack.{SameConnections};
 ghost use Rattle.script_run.specs.Played.{TellClosed, turns_of};
 ghost use Rattle.brpc_eng.specs.StatusNumbers.{number_of};
 ghost use Rattle.brpc_eng.specs.ProgramAnswers.{OpenedNothing, Wrote, FaultWritten, ReplayedInput, by_turns, in_memory, CountsStand, faults_over, linker_over, sink_over, source_over};
@@ -21,6 +22,7 @@ pub fn replay<S: Source, K: Sink, L: Linker>(
     requires unopened { OpenedNothing (L.state links.old) }
     ensures replayed { ReplayedInput in_memory (by_turns (λ script. turns_of script schedule)) (source_over (S.state source.old) (S.state source.new)) (sink_over (K.state out.old) (K.state out.new)) (linker_over (TellClosed L.I.state) (TellOffers L.O.state L.I.state) L.tells_in (L.state links.old) (L.state links.new)) (number_of result) }
     ensures counts { CountsStand (faults_over (S.state source.old).faults (S.state source.new).faults) (faults_over (L.state links.old).faults (L.state links.new).faults) (number_of result) }
+    ensures connections { SameConnections (L.state links.old) (L.state links.new) }
 {
     match read_input(alloc, source) {
         Ok(script) => run_and_report(alloc, script, schedule, out, links),

@@ -1,7 +1,7 @@
 ghost use Rattle.std.specs.Prelude.{◌≡◌, ◌≢◌, true};
 ghost use Rattle.std.specs.List.{list_all};
 ghost use Rattle.sock_io.specs.declared.link.Mode.TheVariants as modes;
-ghost use Rattle.script_links.specs.LinksGivenBack.{has_piece};
+ghost use Rattle.script_links.specs.LinksGivenBack.{SameConnections, has_piece};
 ghost use Rattle.script_links.specs.OfferedLinks.{TellOffers};
 ghost use Rattle.script_threads.specs.ServedLinksOfReport.{IsShort};
 ghost use Rattle.script_run.specs.Played.{TellClosed, turns_of};
@@ -28,6 +28,7 @@ pub fn run_and_report<K: Sink, L: Linker>(
     ensures ran { Ran (turns_of script schedule) script (sink_over (K.state out.old) (K.state out.new)) (linker_over (TellClosed L.I.state) (TellOffers L.O.state L.I.state) L.tells_in (L.state links.old) (L.state links.new)) (number_of result) }
     ensures opened { OpenedBy modes.Loop script (linker_over (TellClosed L.I.state) (TellOffers L.O.state L.I.state) L.tells_in (L.state links.old) (L.state links.new)) (number_of result) }
     ensures linker { number_of result ≢ 8 → (L.state links.new).faults ≡ (L.state links.old).faults }
+    ensures connections { SameConnections (L.state links.old) (L.state links.new) }
 {
     match run_script(alloc, script, schedule, Print::Report, links) {
         Ok(text) => write_report(out, &text),

@@ -1,6 +1,6 @@
 ghost use Rattle.std.specs.Prelude.{◌≡◌, ◌≢◌, true};
 ghost use Rattle.std.specs.List.{list_all};
-ghost use Rattle.script_links.specs.LinksGivenBack.{has_piece};
+ghost use Rattle.script_links.specs.LinksGivenBack.{SameConnections, has_piece};
 ghost use Rattle.script_links.specs.OfferedLinks.{TellOffers};
 ghost use Rattle.script_threads.specs.ServedLinksOfReport.{IsShort};
 ghost use Rattle.script_run.specs.Played.{TellClosed};
@@ -40,6 +40,7 @@ pub fn run_threads<R: Threads + Wait + Sync, S: Source, K: Sink, L: Linker, G: G
     requires unopened { OpenedNothing (L.state links.old) }
     ensures replayed { ReplayedInput (run_mode port) (RanOnThreads (run_mode port)) (source_over (S.state source.old) (S.state source.new)) (sink_over (K.state out.old) (K.state out.new)) (linker_over (TellClosed L.I.state) (TellOffers L.O.state L.I.state) L.tells_in (L.state links.old) (L.state links.new)) (number_of result) }
     ensures counts { CountsStand (faults_over (S.state source.old).faults (S.state source.new).faults) (faults_over (L.state links.old).faults (L.state links.new).faults) (number_of result) }
+    ensures connections { SameConnections (L.state links.old) (L.state links.new) }
 {
     match read_input(alloc, source) {
         Ok(script) => threads_and_report(rt, alloc, port, &script, out, links, gate),
@@ -63,6 +64,7 @@ fn threads_and_report<R: Threads + Wait + Sync, K: Sink, L: Linker, G: Gate + Sy
     ensures ran { RanOnThreads (run_mode port) script.now (sink_over (K.state out.old) (K.state out.new)) (linker_over (TellClosed L.I.state) (TellOffers L.O.state L.I.state) L.tells_in (L.state links.old) (L.state links.new)) (number_of result) }
     ensures opened { OpenedBy (run_mode port) script.now (linker_over (TellClosed L.I.state) (TellOffers L.O.state L.I.state) L.tells_in (L.state links.old) (L.state links.new)) (number_of result) }
     ensures linker { number_of result ≢ 8 → (L.state links.new).faults ≡ (L.state links.old).faults }
+    ensures connections { SameConnections (L.state links.old) (L.state links.new) }
 {
     let mode = run_mode(port);
     let ran = run_on_threads(rt, alloc, mode, script, links, gate);

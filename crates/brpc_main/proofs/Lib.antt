@@ -1,2 +1,2 @@
-mod AnswersOfSameWords
+mod AnswersOfSameNumber
 mod VectorIteratorTaken

@@ -1,2 +1,3 @@
 pub mod CommandLineWords
 pub mod EarlyEndReasons
+pub mod ProgramEnding

@@ -1,10 +1,20 @@
+ghost use Rattle.std.specs.Prelude.{◌≡◌, ◌⊎◌, Result, String, map, string_bytes, false};
+ghost use Rattle.std.specs.Process.{exit_status};
+ghost use Rattle.std.specs.declared.alloc.Global.{Global};
+ghost use Rattle.std.specs.declared.io.Error.{Error};
+ghost use Rattle.std.specs.declared.vec.IntoIter.{IntoIter};
 ghost use Rattle.brpc_eng.specs.ProgramAnswers.{UnusedLinker};
+ghost use Rattle.brpc_further.specs.FurtherAnswers.{may_wait};
+ghost use Rattle.brpc_main.specs.CommandLineWords.{words_behind};
+ghost use Rattle.brpc_main.specs.ProgramEnding.{Ends, EndsAlone, EndsBy};
 
-use crate::run::run_with;
-use loop_link::LoopLinker;
-use net_link::TcpLinker;
-use prog_link::ProgLinker;
-use sock_io::{Linker, OpenGate, StdEdge};
+use crate::arguments::{all_of, behind_first};
+use crate::run::{ended, run_alone, run_with};
+use brpc_further::may_wait;
+use loop_link::{LoopIn, LoopLinker};
+use net_link::{TcpHalf, TcpIn, TcpLinker};
+use prog_link::{ProgIn, ProgLinker, ProgOut};
+use sock_io::{In, Linker, MemOut, OpenGate, Out, Shaped, StdEdge};
 use std::alloc::Global;
 use std::env::{Args, Env};
 use std::net::{Net, TcpListener, TcpStream};
@@ -13,8 +23,11 @@ use std::sync::Wait;
 use std::thread::Threads;
 use std::{env, io};
 
-/// The program over its standard streams: nothing but `run_with` over them, over links of the kind that the words ask for
-/// where they are `run` ones, over TCP where they are `serve` ones, and otherwise over links in memory.
+/// The status of want of memory.
+const NO_MEMORY: u8 = 7;
+
+/// The program over its standard streams, with the arguments that it was started with: what std reads of these no contract says, so
+/// here they are some arguments, and `run_arguments` is the program at any.
 pub fn run_program<
     R: Threads
         + Wait
@@ -25,22 +38,84 @@ pub fn run_program<
         + Print
         + Net<Stream = TcpStream, Listener = TcpListener>,
     E: Print,
->(rt: &R, errors: &E) -> ExitCode {
-    let alloc = rt.alloc();
-    match first_word(env::args(rt)) {
-        First::Run | First::Unknown => run_over(rt, errors, &mut ProgLinker::new(rt, alloc)),
-        First::Serve => run_over(rt, errors, &mut TcpLinker::new(rt, alloc)),
-        First::Other => run_over(rt, errors, &mut LoopLinker::new(alloc, Vec::new(alloc))),
+>(rt: &R, errors: &E) -> ExitCode
+    ensures { (args : Result (IntoIter (String Global) Global) Error) × ((exit_status result ≡ 7) ⊎ EndsBy (EndsAlone ⟦<Shaped<MemOut> as Out>⟧.state ⟦<LoopIn as In>⟧.state ⟦<LoopLinker as Linker>⟧.tells_in) (Ends ⟦<ProgOut as Out>⟧.state ⟦<ProgIn as In>⟧.state ⟦<ProgLinker<&'static R> as Linker>⟧.tells_in) (Ends ⟦<TcpHalf as Out>⟧.state ⟦<TcpIn as In>⟧.state ⟦<TcpLinker<&'static R> as Linker>⟧.tells_in) (words_behind args) (exit_status result)) }
+{
+    run_arguments(rt, env::args(rt), errors)
+}
+
+/// The program with these arguments. Its words are those behind the first, which is the program's name, byte for byte; arguments that
+/// can't be had as text are no words. Where memory runs out for the list of words it ends with 7, and nothing is read, written or
+/// opened.
+pub fn run_arguments<
+    R: Threads
+        + Wait
+        + Sync
+        + Alloc<A = Global>
+        + Input
+        + Print
+        + Net<Stream = TcpStream, Listener = TcpListener>,
+    E: Print,
+>(rt: &R, args: io::Result<Args>, errors: &E) -> ExitCode
+    ensures { (exit_status result ≡ 7) ⊎ EndsBy (EndsAlone ⟦<Shaped<MemOut> as Out>⟧.state ⟦<LoopIn as In>⟧.state ⟦<LoopLinker as Linker>⟧.tells_in) (Ends ⟦<ProgOut as Out>⟧.state ⟦<ProgIn as In>⟧.state ⟦<ProgLinker<&'static R> as Linker>⟧.tells_in) (Ends ⟦<TcpHalf as Out>⟧.state ⟦<TcpIn as In>⟧.state ⟦<TcpLinker<&'static R> as Linker>⟧.tells_in) (words_behind args) (exit_status result) }
+{
+    match all_of(rt.alloc(), args) {
+        Ok(args) => run_words(rt, behind_first(&args), errors),
+        Err(_) => ended(NO_MEMORY, &mut StdEdge::new(io::writer(errors))),
     }
 }
 
-/// The same over these links.
-fn run_over<
-    R: Threads + Wait + Sync + Alloc<A = Global> + Env + Input + Print,
+/// The program with these words, over links of the kind that they ask for: over TCP where they are `serve` ones, over rings or TCP
+/// where they are other ones that may wait, and else in memory.
+fn run_words<
+    R: Threads
+        + Wait
+        + Sync
+        + Alloc<A = Global>
+        + Input
+        + Print
+        + Net<Stream = TcpStream, Listener = TcpListener>,
     E: Print,
-    L: Linker,
->(rt: &R, errors: &E, links: &mut L) -> ExitCode
+>(rt: &R, words: &[String], errors: &E) -> ExitCode
+    ensures { EndsBy (EndsAlone ⟦<Shaped<MemOut> as Out>⟧.state ⟦<LoopIn as In>⟧.state ⟦<LoopLinker as Linker>⟧.tells_in) (Ends ⟦<ProgOut as Out>⟧.state ⟦<ProgIn as In>⟧.state ⟦<ProgLinker<&'static R> as Linker>⟧.tells_in) (Ends ⟦<TcpHalf as Out>⟧.state ⟦<TcpIn as In>⟧.state ⟦<TcpLinker<&'static R> as Linker>⟧.tells_in) (map string_bytes words.now) (exit_status result) }
+{
+    let alloc = rt.alloc();
+    if !may_wait(words) {
+        let mut links = LoopLinker::new(alloc, Vec::new(alloc));
+        return alone_over(rt, words, &mut links, errors);
+    }
+    if is_serve(words) {
+        let mut links = TcpLinker::accepting(rt, alloc, connections(words));
+        return run_over(rt, words, &mut links, errors);
+    }
+    run_over(rt, words, &mut ProgLinker::new(rt, alloc), errors)
+}
+
+/// How many connections `serve PORT N` accepts; behind the last nobody listens any more. 256 where the words aren't these.
+fn connections(words: &[String]) -> u16 {
+    match words.get(2) {
+        Some(count) => count.as_str().parse::<u16>().unwrap_or(256),
+        None => 256,
+    }
+}
+
+/// Whether the first word is `serve`.
+fn is_serve(words: &[String]) -> bool {
+    match words.first() {
+        Some(word) => word.as_str() == "serve",
+        None => false,
+    }
+}
+
+/// The program with these words over these links and the standard streams.
+fn run_over<R: Threads + Wait + Sync + Alloc<A = Global> + Input + Print, L: Linker, E: Print>(
+    rt: &R,
+    words: &[String],
+    links: &mut L,
+    errors: &E,
+) -> ExitCode
     requires unused { UnusedLinker (L.state links.old) }
+    ensures { Ends L.O.state L.I.state L.tells_in (map string_bytes words.now) (exit_status result) }
 {
     let mut source = StdEdge::new(rt.reader());
     let mut out = StdEdge::new(io::writer(rt));
@@ -48,7 +123,7 @@ fn run_over<
     run_with(
         rt,
         rt.alloc(),
-        env::args(rt),
+        words,
         &mut source,
         &mut out,
         links,
@@ -57,26 +132,19 @@ fn run_over<
     )
 }
 
-/// The word behind the program's name, as far as the kind of links hangs on it. Where memory was wanting for the words it isn't
-/// known, though they may be had when they are asked for once more: then links have to be made of each kind.
-enum First {
-    Run,
-    Serve,
-    Other,
-    Unknown,
-}
-
-fn first_word(args: io::Result<Args>) -> First {
-    let Ok(mut args) = args else {
-        return First::Unknown;
-    };
-    let _name = args.next();
-    let Some(word) = args.next() else {
-        return First::Other;
-    };
-    match word.as_str() {
-        "run" => First::Run,
-        "serve" => First::Serve,
-        _ => First::Other,
-    }
+/// The same where the words ask for nothing that may wait: it has no right to wait, so it ends.
+fn alone_over<R: Alloc<A = Global> + Input + Print, L: Linker, E: Print>(
+    rt: &R,
+    words: &[String],
+    links: &mut L,
+    errors: &E,
+) -> ExitCode
+    requires alone { may_wait (map string_bytes words.now) ≡ false }
+    requires unused { UnusedLinker (L.state links.old) }
+    ensures { EndsAlone L.O.state L.I.state L.tells_in (map string_bytes words.now) (exit_status result) }
+{
+    let mut source = StdEdge::new(rt.reader());
+    let mut out = StdEdge::new(io::writer(rt));
+    let mut errors = StdEdge::new(io::writer(errors));
+    run_alone(rt.alloc(), words, &mut source, &mut out, links, &mut errors)
 }

@@ -10,6 +10,7 @@ use Rattle.sock_io.specs.LinkHalves.{OutState}
 use Rattle.sock_words.specs.ErrorCodes.{EFAILEDSOCKET}
 use Rattle.sock_words.specs.PackedWords.{socket_id_slot, socket_id_version, place_word}
 use Rattle.sock_words.specs.declared.outcome.Outcome.{Outcome}
+use Rattle.sock_words.specs.declared.plain.Label.{Label}
 use Rattle.sock_words.specs.declared.plain.Plan.{Plan}
 use Rattle.sock_words.specs.declared.place_word.PlaceWord.{PlaceWord}
 use Rattle.sock_words.specs.declared.vref.Vref.{Vref}
@@ -241,10 +242,10 @@ module _ {O : Type 0} {g : Ghosts O} {state : O → OutState} {readers : List (L
       dropped_at : IsDroppedAt asked.operation
       dropped_at =
           let l = logged_there in let d = w.drop.wrote in let e = l.entry in
-          let attempt : e.heading.label.attempt ≡ n = l.attempt_is ∙ (d.attempt_is ∙ sym w.attempt_is) in
+          let attempt : e.heading.label.attempt ≡ n = l.attempt_is ∙ (ap (λ (x : Label). x.attempt) d.label_is ∙ sym w.attempt_is) in
           let owner : e.heading.owner ≡ id = l.owner_is ∙ (d.owner_is ∙ sym w.owner) in
           let k = kept_there in let l_ = w.drop.msg.label.place in let word = place_word true w.drop.wrote.link w.drop.wrote.position in let more = k.still.puts (place_index p l_) word in let put = stored_there in
-          let there : 0 < put_in (place_index p e.heading.label.place) word (after drun k.act) = subst (λ (z : ℕ). 0 < put_in (place_index p z) word (after drun k.act)) (sym (l.place_is ∙ d.place_is)) (omega (arith, more, put)) in
+          let there : 0 < put_in (place_index p e.heading.label.place) word (after drun k.act) = subst (λ (z : ℕ). 0 < put_in (place_index p z) word (after drun k.act)) (sym (l.place_is ∙ ap (λ (x : Label). x.place) d.label_is)) (omega (arith, more, put)) in
           let stands = dropped_stands drun differ few few_links l.position e l.there k.act w.drop.wrote.link w.drop.wrote.position w.drop.wrote.low there in
           let o : IsOwned run tasks may notes kept words closing noted e = elim (owned_by run tasks may notes kept words closing noted l.position e (ap (λ (z : List Entry). get_elem? z l.position) (sym logged) ∙ l.there)) [
             | inl none_ ↦ absurd (w.call (sym (l.owner_is ∙ d.owner_is) ∙ none_))

@@ -22,7 +22,7 @@ type Link = Ends<TcpHalf, TcpIn, NoPeer>;
 ///
 /// An `open` fails where the link isn't to go over TCP, and where nobody listens at the port; an `accept` where the port
 /// can't be listened at. Both fail where the system has no more room for a stream. An `accept` waits for a connection, and
-/// takes no memory.
+/// takes no memory. Behind the last one that is to be accepted nobody listens any more, so that a further client is refused.
 ///
 /// A link or connection is closed as it is given back. What was told of it is kept for the proofs alone, so that giving
 /// back takes no memory.
@@ -33,6 +33,8 @@ pub struct TcpLinker<N: Net<Stream = TcpStream, Listener = TcpListener> + Drop> 
     listener: Option<TcpListener>,
     opened: u16,
     accepted: u16,
+    /// How many are to be accepted.
+    most: u16,
     faults: u64,
     /// What was asked of each link, and what was given back.
     notes: NotedLinks<TcpHalf, TcpIn, NoPeer>,
@@ -54,12 +56,20 @@ impl<N: Net<Stream = TcpStream, Listener = TcpListener> + Drop> TcpLinker<N> {
     pub fn new(net: N, alloc: Global) -> Self
         ensures { result ≡ record { asked = []; accepted = 0; back = []; done = []; faults = 0; always_ready = true } }
     {
+        TcpLinker::accepting(net, alloc, 256)
+    }
+
+    /// The same, which listens until it accepted so many connections.
+    pub fn accepting(net: N, alloc: Global, connections: u16) -> Self
+        ensures { result ≡ record { asked = []; accepted = 0; back = []; done = []; faults = 0; always_ready = true } }
+    {
         TcpLinker {
             net,
             alloc,
             listener: None,
             opened: 0,
             accepted: 0,
+            most: connections,
             faults: 0,
             notes: NotedLinks::new(),
         }
@@ -148,6 +158,9 @@ impl<N: Net<Stream = TcpStream, Listener = TcpListener> + Drop> Linker for TcpLi
         match accept(&self.net, &mut self.listener, port) {
             Ok((out, inn)) => {
                 self.accepted += 1;
+                if self.accepted >= self.most {
+                    self.listener = None;
+                }
                 Ok((TcpHalf::Accepted(out), inn))
             }
             Err(_) => Err(self.fault()),

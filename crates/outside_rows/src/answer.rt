@@ -1,7 +1,7 @@
 //! What a row asks of the top call, and what that answers.
 ghost use Rattle.brpc_eng.specs.ProgramAnswers.{UnusedLinker};
 
-use brpc_eng::brpc;
+use brpc_further::{further, further_alone, may_wait};
 use sock_io::{Gate, Linker, MemSink, MemSource};
 use std::alloc::{AllocError, Global};
 use std::str;
@@ -45,7 +45,11 @@ pub fn answered<R: Threads + Wait + Sync + Alloc<A = Global>, L: Linker, G: Gate
         return Err(AllocError);
     };
     let words = asked.words.as_slice();
-    let status = brpc(rt, alloc, words, &mut source, &mut out, links, gate);
+    let status = if may_wait(words) {
+        further(rt, alloc, words, &mut source, &mut out, links, gate)
+    } else {
+        further_alone(alloc, words, &mut source, &mut out, links)
+    };
     let written = Vec::from_slice(alloc, out.bytes())?;
     Ok(Answer { status, written })
 }

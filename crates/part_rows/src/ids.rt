@@ -1,4 +1,4 @@
-ghost use Rattle.std.specs.Prelude.{◌≡◌, ◌≢◌, ◌<◌, ◌≤◌, ℕ, [], IfSome};
+ghost use Rattle.std.specs.Prelude.{◌≡◌, ◌≢◌, ◌+◌, ◌<◌, ◌≤◌, ℕ, [], IfSome, MatchOption};
 ghost use Rattle.corr_core.specs.IdSlotWord.{parts};
 ghost use Rattle.corr_core.specs.declared.marks.Hand.TheVariants.{Empty};
 ghost use Rattle.id_rule.specs.LawfulIdTable.{tokens_in};
@@ -48,24 +48,26 @@ fn begin(alloc: Global, slots: u16, seats: u16) -> Option<(Table, Seat, Vec<Seat
     Some((table, seat, all))
 }
 
-/// Posts an error for the whole call of this lock.
+/// Posts an error of an attempt, or of the whole call, for the id of this lock.
 fn post_own<R: Wait + Abort>(
     rt: &R,
     table: &Table,
     seat: &mut Seat,
     lock: IdLock<u8>,
     code: u16,
+    attempt: Option<u8>,
 ) -> (IdLock<u8>, Own)
     requires seat { Sits table.now.table.shared.table_id seat.old }
     requires lock { (lock.slot < table.now.plan.slots) × Locks lock.slot seat.old.me.0 (parts lock.word.0) lock.content Empty }
     requires others { (j : ℕ) → j ≢ lock.slot → tokens_in j seat.old.me.0 ≡ [] }
     requires code { (1 ≤ code) × (code < 4096) }
+    requires attempt { MatchOption attempt (Unit {0}) (λ n. n ≤ 6) }
     ensures seat { Sits table.now.table.shared.table_id seat.new }
     ensures lock { result.0 ≡ lock }
     ensures locks { Locks lock.slot seat.new.me.0 (parts lock.word.0) lock.content Empty }
     ensures others { (j : ℕ) → j ≢ lock.slot → tokens_in j seat.new.me.0 ≡ [] }
 {
-    let answer = table.post(rt, seat, lock.id(), code, None);
+    let answer = table.post(rt, seat, lock.id(), code, attempt);
     match answer {
         Posted::Queued => (lock, Own::Queued),
         Posted::Crowded { first, second } => (lock, Own::Crowded(first, second)),
@@ -89,9 +91,9 @@ fn two_errors_are_kept(rt: HostRuntime) {
     assert!(&rt;
         lock.id() == 1 && *lock.content() == 7 && lock.attempt() == 0 && lock.range() == 2
     );
-    let (lock, first) = post_own(&rt, &table, &mut seat, lock, 1500);
-    let (lock, second) = post_own(&rt, &table, &mut seat, lock, 1501);
-    let (lock, third) = post_own(&rt, &table, &mut seat, lock, 1502);
+    let (lock, first) = post_own(&rt, &table, &mut seat, lock, 1500, None);
+    let (lock, second) = post_own(&rt, &table, &mut seat, lock, 1501, None);
+    let (lock, third) = post_own(&rt, &table, &mut seat, lock, 1502, None);
     assert!(&rt; first == Own::Queued && second == Own::Queued);
     assert!(&rt; third == Own::Crowded(1500, 1501));
     let answer = table.unlock(&mut seat, lock, false);
@@ -113,6 +115,99 @@ fn two_errors_are_kept(rt: HostRuntime) {
     assert!(&rt; matches!(table.create(&mut seat, 2, 7), Ok(3)));
 }
 
+/// An id of three versions, locked at its first attempt, for which an error of one attempt and then one of another is queued.
+fn with_two<R: Wait + Abort>(
+    rt: &R,
+    table: &Table,
+    seat: &mut Seat,
+    first: Option<u8>,
+    second: Option<u8>,
+) -> IdLock<u8>
+    requires seat { Sits table.now.table.shared.table_id seat.old × IsFree seat.old.me.0 }
+    requires first { MatchOption first (Unit {0}) (λ n. n ≤ 6) }
+    requires second { MatchOption second (Unit {0}) (λ n. n ≤ 6) }
+    ensures seat { Sits table.now.table.shared.table_id seat.new }
+    ensures lock { (result.slot < table.now.plan.slots) × Locks result.slot seat.new.me.0 (parts result.word.0) result.content Empty }
+    ensures others { (j : ℕ) → j ≢ result.slot → tokens_in j seat.new.me.0 ≡ [] }
+    ensures left { (parts result.word.0).attempt + 2 < (parts result.word.0).range }
+{
+    let Ok(id) = table.create(seat, 3, 7) else {
+        panic!(rt; "no slot");
+    };
+    let Ok(lock) = table.lock(rt, seat, id) else {
+        panic!(rt; "not locked");
+    };
+    let (lock, one) = post_own(rt, table, seat, lock, 1500, first);
+    let (lock, two) = post_own(rt, table, seat, lock, 1501, second);
+    assert!(rt; one == Own::Queued && two == Own::Queued);
+    assert!(rt; lock.attempt() == 0 && lock.range() == 3);
+    lock
+}
+
+/// Gives this lock back at the attempt at which it is: whether the id opened.
+fn opens(table: &Table, seat: &mut Seat, lock: IdLock<u8>) -> bool
+    requires seat { Sits table.now.table.shared.table_id seat.old }
+    requires lock { (lock.slot < table.now.plan.slots) × Locks lock.slot seat.old.me.0 (parts lock.word.0) lock.content Empty }
+    requires others { (j : ℕ) → j ≢ lock.slot → tokens_in j seat.old.me.0 ≡ [] }
+    ensures { Sits table.now.table.shared.table_id seat.new × IsFree seat.new.me.0 }
+{
+    match table.unlock(seat, lock, false) {
+        Unlocked::Open => true,
+        Unlocked::Next {
+            lock: next,
+            code: _code,
+            attempt: _attempt,
+        } => {
+            let _ = table.destroy(seat, next);
+            false
+        }
+    }
+}
+
+/// The error that an advance hands out of these two, and the attempt that is current then: `None` where it opens the id. Behind
+/// the one handed out none is left.
+fn advanced<R: Wait + Abort>(
+    rt: &R,
+    table: &Table,
+    seat: &mut Seat,
+    first: Option<u8>,
+    second: Option<u8>,
+) -> Option<(u16, Option<u8>, u8)>
+    requires seat { Sits table.now.table.shared.table_id seat.old × IsFree seat.old.me.0 }
+    requires first { MatchOption first (Unit {0}) (λ n. n ≤ 6) }
+    requires second { MatchOption second (Unit {0}) (λ n. n ≤ 6) }
+    ensures { Sits table.now.table.shared.table_id seat.new × IsFree seat.new.me.0 }
+{
+    let lock = with_two(rt, table, seat, first, second);
+    match table.unlock(seat, lock, true) {
+        Unlocked::Open => None,
+        Unlocked::Next {
+            lock: next,
+            code,
+            attempt,
+        } => {
+            let current = next.attempt();
+            assert!(rt; opens(table, seat, next));
+            Some((code, attempt, current))
+        }
+    }
+}
+
+// An advance throws away what is stale: the errors of the attempt before it, wherever they wait. Those of the whole call are
+// handed out, and once none is left the id opens.
+#[test]
+fn an_advance_throws_away_what_is_stale(rt: HostRuntime) {
+    let Some((table, mut seat, _seats)) = begin(rt.alloc(), 3, 1) else {
+        panic!(&rt; "no memory");
+    };
+    let second = advanced(&rt, &table, &mut seat, Some(0), None);
+    assert!(&rt; matches!(second, Some((1501, None, 1))));
+    let first = advanced(&rt, &table, &mut seat, None, Some(0));
+    assert!(&rt; matches!(first, Some((1500, None, 1))));
+    let none = advanced(&rt, &table, &mut seat, Some(0), Some(0));
+    assert!(&rt; none.is_none());
+}
+
 /// An id that may be there: a new one, or where no slot is free the one of the first slot.
 fn some_id(table: &Table, seat: &mut Seat) -> u64
     requires { Sits table.now.table.shared.table_id seat.old × IsFree seat.old.me.0 }
@@ -131,7 +226,7 @@ fn end<R: Wait + Abort>(rt: &R, table: &Table, seat: &mut Seat, lock: IdLock<u8>
     requires others { (j : ℕ) → j ≢ lock.slot → tokens_in j seat.old.me.0 ≡ [] }
     ensures { Sits table.now.table.shared.table_id seat.new × IsFree seat.new.me.0 }
 {
-    let (lock, _) = post_own(rt, table, seat, lock, 1500);
+    let (lock, _) = post_own(rt, table, seat, lock, 1500, None);
     match table.unlock(seat, lock, false) {
         Unlocked::Open => false,
         Unlocked::Next {

@@ -155,6 +155,44 @@ fn accept_fails_where_another_one_listens(rt: HostRuntime) -> Result<(), Fail> {
     Ok(())
 }
 
+// Whether a further link to the port is refused, once the next connection was accepted there.
+fn refuses_behind<L: Linker, N: Net<Stream = TcpStream, Listener = TcpListener> + Drop>(
+    net: N,
+    alloc: Global,
+    links: &mut L,
+    port: u16,
+) -> Option<bool>
+    requires { ((L.state links.old).accepted ≡ 0) × ((L.state links.old).done ≡ []) }
+{
+    let Ok((out, inn)) = links.accept(port) else {
+        return None;
+    };
+    let refuses = is_refused(&mut TcpLinker::new(net, alloc), Mode::Tcp(port));
+    links.done(out, inn);
+    Some(refuses)
+}
+
+// Whether nobody listens any more behind the last connection.
+fn closes_behind_last<R: Threads + Net<Stream = TcpStream, Listener = TcpListener> + Sync>(
+    rt: &R,
+    alloc: Global,
+    port: u16,
+) -> Option<bool> {
+    let (refuses, _) = thread::join(
+        rt,
+        move || refuses_behind(rt, alloc, &mut TcpLinker::accepting(rt, alloc, 1), port),
+        move || once_heard(&|| say(&mut TcpLinker::new(rt, alloc), port)),
+    );
+    refuses
+}
+
+#[test]
+fn nobody_listens_behind_the_last_connection(rt: HostRuntime) -> Result<(), Fail> {
+    let port = free_port(&rt)?;
+    assert!(rt; closes_behind_last(&rt, rt.alloc(), port) == Some(true));
+    Ok(())
+}
+
 // Whether the link fails now and from now on, and is not ended.
 fn is_lost<O: Out, I: In>(out: &mut O, inn: &mut I) -> bool {
     let mut room = [0; 8];

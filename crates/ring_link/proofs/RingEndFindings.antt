@@ -2,12 +2,11 @@
 use Rattle.std.proofs.Common.{◌≡◌, ◌≢◌, ◌⊎◌, inl, inr, ℕ, not, Bool, true, false, List, [], ◌∷◌, ◌++◌, Option, None, Some, refl, ap, sym, ◌∙◌, subst, append_assoc, append-nil}
 use Rattle.sock_io.specs.declared.ending.Ending.{Ending}
 use Rattle.sock_io.specs.declared.ending.Ending.TheVariants as ending
-use Rattle.sock_io.specs.declared.link.Take.{Take}
-use Rattle.sock_io.specs.LinkHalves.{OutState, InState, Offer, FillsRoom, IsServed, IsSettled, offered_by}
+use Rattle.sock_io.specs.LinkHalves.{OutState, InState, Offer, IsServed, IsSettled, offered_by}
 use Rattle.sock_io.specs.Peer.{PeerState, has_ended}
 use Rattle.sock_io.specs.MeetingOnOneThread.{FindsAll, IsFound, OffersFound, IsFront, GaveFront, MeetStep}
 use Rattle.loop_link.specs.ServingFedBytes.{LoopInState}
-use Rattle.ring_link.specs.InsideRingLink.{InnerState, inner_offer, inner_gave, answer_behind, handed_on, offer_met, met_after}
+use Rattle.ring_link.specs.InsideRingLink.{InnerState, inner_offer, inner_gave, handed_on, offer_met, met_after}
 use Rattle.ring_link.proofs.Repeating.{ended_open}
 use Rattle.ring_link.specs.RingHalves.{ReaderState, WriterState, RingOutState, RingInState, RingPeerState, IsTakenOf, Repeats, ring_in, ring_peer, told_out}
 
@@ -161,15 +160,6 @@ module _ (out : RingOutState) (p : RingPeerState) (inn : RingInState) (rp : Read
   met_step inn' is = subst (λ (n : RingInState). MeetStep (told_out out) (ring_peer p) (ring_in inn) (ring_in n)) (sym (is ∙ ap (λ (r : ReaderState). record inn { reader = r; met = met_after (not p.starved) inn.reader.ending inn.met p.inner.inn }) e3))
       (record { same = refl; offer = found_after (told_out out) (ring_peer p) (ring_in inn) (not p.starved) inn.reader.ending inn.met p.inner.inn found; all = all_found; front = front })
 
--- ## A take of a link that was compared
-
--- where the mark was taken before, a take gives nothing more, so that it gives as much of what waits as the room takes
-pub fills_met : {A : Type 0} (m : List LoopInState) (e : Ending) (room : List ℕ) (result : Take) → ((e ≡ ending.Open → ⊥) → A × (result ≡ answer_behind e)) → FillsRoom (offer_met m e) room result
-fills_met [] e room result behind = tt
-fills_met (i ∷ m) ending.Open room result behind = tt
-fills_met (i ∷ m) ending.Ended room result behind = subst (FillsRoom (Some (handed_on i ending.Ended)) room) (sym (behind (λ open_. cc)).1) tt
-fills_met (i ∷ m) ending.Closed room result behind = subst (FillsRoom (Some (handed_on i ending.Closed)) room) (sym (behind (λ open_. cc)).1) tt
-
 -- ## A link that was compared is settled
 
 module _ (o : Offer) (took gave : List ℕ) (finished : Bool) (s : IsServed took finished gave o) where
@@ -190,8 +180,8 @@ settled_all (i ∷ m) ending.Closed o took gave finished is s = all_closed o too
 
 -- and it is known to end
 met_ends : (m : List LoopInState) (e : Ending) (o : Offer) → offer_met m e ≡ Some o → o.ending ≢ ending.Open
-met_ends [] e o is = absurd (none_known o is)
-met_ends (i ∷ m) ending.Open o is = absurd (none_known o is)
+met_ends [] e o is open_ = absurd (none_known o is)
+met_ends (i ∷ m) ending.Open o is open_ = absurd (none_known o is)
 met_ends (i ∷ m) ending.Ended o is open_ = absurd (let z : ending.Ended ≡ ending.Open = ap (λ (y : Offer). y.ending) (some_same (handed_on i ending.Ended) o is) ∙ open_ in cc)
 met_ends (i ∷ m) ending.Closed o is open_ = absurd (let z : ending.Closed ≡ ending.Open = ap (λ (y : Offer). y.ending) (some_same (handed_on i ending.Closed) o is) ∙ open_ in cc)
 

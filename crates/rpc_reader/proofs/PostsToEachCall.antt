@@ -11,9 +11,9 @@ use Rattle.corr_core.specs.declared.marks.View.{View}
 use Rattle.corr_core.specs.declared.marks.Noted.{Noted}
 use Rattle.corr_id.specs.declared.posts.Posted.{Posted}
 use Rattle.corr_id.specs.declared.posts.Posted.TheVariants as posted
-use Rattle.corr_id.specs.SeatBehindIdCalls.{Found, FoundNow, HasId, LacksId, Quiet, Did}
-use Rattle.corr_id.specs.PostAnswers.{PostOk, PostedNow}
-use Rattle.corr_id.proofs.TokensOfIdCalls.{quiet_after, got_after, now_quiet}
+use Rattle.corr_id.specs.SeatBehindIdCalls.{Found, HasId, LacksId, Quiet, Did}
+use Rattle.corr_id.specs.PostAnswers.{PostOk}
+use Rattle.corr_id.proofs.TokensOfIdCalls.{quiet_after, got_after}
 use Rattle.id_rule.specs.LawfulIdTable.{tokens_in}
 use Rattle.sock_message.specs.Asked.{Asked}
 use Rattle.prpc_frame.specs.declared.frame.Frame.{Frame}
@@ -49,24 +49,20 @@ first_inside slot w early i f e = (position-Some (is_for slot w) early i f (sym 
 
 -- ## The call that an at word names
 
-has_inside : (slots id word : ℕ) → HasId (parts word) (id_first id) → (slots ≤ id_slot id → word ≡ 0) → id_slot id < slots
-has_inside slots id word h z = ⊎_elim (λ lt. lt) (λ ge. absurd (let e₀ = ap (λ (n : ℕ). (parts n).state) (z ge) in let some_ = h.1 in omega (arith, e₀, some_))) (cases_lt (id_slot id) slots)
-
 -- a word that has the id stands in a slot of the table
 pub found_of : (slots w id word : ℕ) (v : View Asked) → id ≡ call_at w → (id_slot id < slots → Found (id_slot id) word v × (0 < word)) → (slots ≤ id_slot id → word ≡ 0) → HasId (parts word) (id_first id) → FoundOf w word v
-found_of slots w id word v e found none_ has = subst (λ (n : ℕ). Found (id_slot n) word v × HasId (parts word) (id_first n)) e ((found (has_inside slots id word has none_)).0, has)
-
-pub now_of : (slots w id word : ℕ) (u v : View Asked) → id ≡ call_at w → (id_slot id < slots → FoundNow (id_slot id) word u v) → (slots ≤ id_slot id → word ≡ 0) → HasId (parts word) (id_first id) → FoundNow (id_slot (call_at w)) word u v
-now_of slots w id word u v e now none_ has = subst (λ (n : ℕ). FoundNow (id_slot n) word u v) e (now (has_inside slots id word has none_))
+found_of slots w id word v e found none_ has = subst (λ (n : ℕ). Found (id_slot n) word v × HasId (parts word) (id_first n)) e ((found (inside has none_)).0, has)
+  where
+    inside : HasId (parts word) (id_first id) → (slots ≤ id_slot id → word ≡ 0) → id_slot id < slots
+    inside h z = ⊎_elim (λ lt. lt) (λ ge. absurd (let e₀ = ap (λ (n : ℕ). (parts n).state) (z ge) in let some_ = h.1 in omega (arith, e₀, some_))) (cases_lt (id_slot id) slots)
 
 -- and one that lacks it tells that the id has ended
-pub gone_last : (slots code w id word : ℕ) (b : Books) (seen : View Asked) → id ≡ call_at w → Quiet b.view seen → (id_slot id < slots → Found (id_slot id) word seen × (0 < word)) → (id_slot id < slots → FoundNow (id_slot id) word b.view seen) → (slots ≤ id_slot id → word ≡ 0) → LacksId (parts word) (id_first id) → MetOrPosted slots code w b (record b { view = seen })
-gone_last slots code w id word b seen e quiet found now none_ lacks = inr record {
+pub gone_last : (slots code w id word : ℕ) (b : Books) (seen : View Asked) → id ≡ call_at w → Quiet b.view seen → (id_slot id < slots → Found (id_slot id) word seen × (0 < word)) → (slots ≤ id_slot id → word ≡ 0) → LacksId (parts word) (id_first id) → MetOrPosted slots code w b (record b { view = seen })
+gone_last slots code w id word b seen e quiet found none_ lacks = inr record {
   answer = posted.Gone word;
   seen = seen;
   posted = subst (λ (n : ℕ). Quiet b.view seen × (((slots ≤ id_slot n) × (word ≡ 0)) ⊎ (Found (id_slot n) word seen × LacksId (parts word) (id_first n)))) e
       (quiet, ⊎_elim (λ lt. inr ((found lt).0, lacks)) (λ ge. inl (ge, none_ ge)) (cases_lt (id_slot id) slots));
-  now = subst (λ (n : ℕ). id_slot n < slots → FoundNow (id_slot n) word b.view seen) e now;
   none_kept = tt;
   then_ = refl;
 }
@@ -75,13 +71,12 @@ pub kept_is : (slot slot' word word' : ℕ) (early early' : List Frame) → slot
 kept_is slot slot' word word' early early' a b c = λ k. position (is_for (a k) (parts (b k))) (c k)
 
 -- the first response that was kept for it
-pub met_kept : (slots code w word place : ℕ) (b b' : Books) (seen : View Asked) (frame : Frame) → Quiet b.view seen → FoundOf w word seen → FoundNow (id_slot (call_at w)) word b.view seen → Some place ≡ kept_at w word b.early → frame ≡ get_or b.early place frame → FrameMet slots frame (record b { view = seen; early = remove b.early place }) b' → MetOrPosted slots code w b b'
-met_kept slots code w word place b b' seen frame quiet found now first is met = inl record {
+pub met_kept : (slots code w word place : ℕ) (b b' : Books) (seen : View Asked) (frame : Frame) → Quiet b.view seen → FoundOf w word seen → Some place ≡ kept_at w word b.early → frame ≡ get_or b.early place frame → FrameMet slots frame (record b { view = seen; early = remove b.early place }) b' → MetOrPosted slots code w b b'
+met_kept slots code w word place b b' seen frame quiet found first is met = inl record {
   seen = seen;
   quiet = quiet;
   word = word;
   found = found;
-  now = now;
   place = place;
   first = sym first;
   frame = frame;
@@ -107,19 +102,11 @@ post_after slots id code attempt u v w (posted.Gone found) q (quiet, was) = (qui
 post_after slots id code attempt u v w (posted.Stale current) q (quiet, stale, was) = (quiet_after u v w q quiet, stale, was)
 post_after slots id code attempt u v w (posted.Crowded first second) q (quiet, was) = (quiet_after u v w q quiet, was)
 
-now_after : (slots id code : ℕ) (attempt : Option ℕ) (u v w : View Asked) (answer : Posted Asked) → Quiet u v → PostedNow slots v w id code attempt answer → PostedNow slots u w id code attempt answer
-now_after slots id code attempt u v w (posted.Locked k) q (word, now, was) = (word, now_quiet k.slot word u v w q now, was)
-now_after slots id code attempt u v w posted.Queued q (word, now, was) = (word, now_quiet (id_slot id) word u v w q now, was)
-now_after slots id code attempt u v w (posted.Gone found) q now = λ inside. now_quiet (id_slot id) found u v w q (now inside)
-now_after slots id code attempt u v w (posted.Stale current) q (word, now, was) = (word, now_quiet (id_slot id) word u v w q now, was)
-now_after slots id code attempt u v w (posted.Crowded first second) q (word, now, was) = (word, now_quiet (id_slot id) word u v w q now, was)
-
 pub last_after : (slots code w : ℕ) (b b' : Books) (seen : View Asked) → Quiet b.view seen → PostedLast slots code w (record b { view = seen }) b' → MetOrPosted slots code w b b'
 last_after slots code w b b' seen quiet l = inr record {
   answer = l.answer;
   seen = l.seen;
   posted = post_after slots (call_at w) code (attempt_at w) b.view seen l.seen l.answer quiet l.posted;
-  now = now_after slots (call_at w) code (attempt_at w) b.view seen l.seen l.answer quiet l.now;
   none_kept = l.none_kept;
   then_ = l.then_;
 }

@@ -3,7 +3,7 @@ use Rattle.std.specs.Prelude.{◌≡◌, ◌+◌, ◌<◌, ◌==◌, ◌&&◌, �
 use Rattle.corr_core.specs.IdSlotWord.{Parts, parts}
 use Rattle.corr_core.specs.declared.marks.View.{View}
 use Rattle.corr_core.specs.IdRangeVersions.{has_version, is_early}
-use Rattle.corr_id.specs.SeatBehindIdCalls.{GotLock, Quiet, Found, FoundNow, LockedNow}
+use Rattle.corr_id.specs.SeatBehindIdCalls.{GotLock, Quiet, Found, FoundNow}
 use Rattle.corr_id.specs.LocksByAttempt.{LacksAttempt}
 use Rattle.sock_message.specs.Asked.{Asked}
 use Rattle.prpc_frame.specs.rpc_meta.specs.declared.meta.ResponseMeta.{ResponseMeta}
@@ -40,7 +40,6 @@ pub record AnsweredBy (slots : ℕ) (f : Frame) (b b' : Books) : Type 0 where
   pub word : Parts
   pub call : Asked
   pub got : GotLock (slot_in f) b.view locked found word call
-  pub now : LockedNow (slot_in f) b.view locked word
   pub version : (word.first < version_in f) × (version_in f < word.first + word.range)
   pub ended : EndedAs (slot_in f) word call (ending_of (id_of (slot_in f) word) (frame_of f)) (record b { view = locked }) b'
   pub early : b'.early ≡ b.early

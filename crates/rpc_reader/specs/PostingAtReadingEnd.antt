@@ -12,8 +12,8 @@ use Rattle.corr_core.specs.declared.marks.View.{View}
 use Rattle.id_rule.specs.LawfulIdTable.{at_index, with_kept}
 use Rattle.corr_id.specs.declared.posts.Posted.{Posted}
 use Rattle.corr_id.specs.declared.posts.Posted.TheVariants as posted
-use Rattle.corr_id.specs.SeatBehindIdCalls.{Quiet, Found, FoundNow, HasId}
-use Rattle.corr_id.specs.PostAnswers.{PostOk, PostedNow}
+use Rattle.corr_id.specs.SeatBehindIdCalls.{Quiet, Found, HasId}
+use Rattle.corr_id.specs.PostAnswers.{PostOk}
 use Rattle.sock_message.specs.Asked.{Asked}
 use Rattle.prpc_frame.specs.FrameMeaning.{frame_of}
 use Rattle.prpc_frame.specs.declared.frame.Frame.{Frame}
@@ -59,7 +59,6 @@ pub record PostedLast (slots code w : ℕ) (b b' : Books) : Type 0 where
   pub answer : Posted Asked
   pub seen : View Asked
   pub posted : PostOk slots b.view seen (call_at w) code (attempt_at w) answer
-  pub now : PostedNow slots b.view seen (call_at w) code (attempt_at w) answer
   pub none_kept : KeptNone answer w seen b.early
   pub then_ : PostedTo code answer (record b { view = seen }) b'
 
@@ -69,7 +68,6 @@ pub record MetKept (slots w : ℕ) (b b' : Books) : Type 0 where
   pub quiet : Quiet b.view seen
   pub word : ℕ
   pub found : FoundOf w word seen
-  pub now : FoundNow (id_slot (call_at w)) word b.view seen
   pub place : ℕ
   pub first : kept_at w word b.early ≡ Some place
   pub frame : Frame

@@ -6,7 +6,7 @@ ghost use Rattle.brpc_model.specs.PlaceWords.{ArePlaces, HasEachOutcome, AreTold
 ghost use Rattle.sock_io.specs.declared.link.Ends.{Ends};
 ghost use Rattle.sock_io.specs.FaultCauses.{OpenCause};
 ghost use Rattle.sock_io.specs.LinkHalves.{end_of};
-ghost use Rattle.script_links.specs.LinksGivenBack.{AreNumbered, AreUntouched, IsBeginning, has_piece, specs_of};
+ghost use Rattle.script_links.specs.LinksGivenBack.{AreNumbered, AreUntouched, IsBeginning, SameConnections, has_piece, specs_of};
 ghost use Rattle.script_links.specs.OfferedLinks.{AreAsked, TellOffers};
 ghost use Rattle.script_run.specs.Played.{IsPrintOf, IsPrinted, TellClosed, turns_of};
 
@@ -44,6 +44,7 @@ pub fn run_script<L: Linker>(
     ensures given_back { length (L.state links.new).back ≡ length (L.state links.new).asked }
     ensures numbered { AreNumbered 0 (L.state links.new).back }
     ensures always_ready { (L.state links.new).always_ready ≡ (L.state links.old).always_ready }
+    ensures connections { SameConnections (L.state links.old) (L.state links.new) }
     ensures cause { OpenCause (L.state links.old).faults (L.state links.new).faults result }
 {
     let mut ends = Vec::new(alloc);
@@ -95,6 +96,7 @@ fn run_over<L: Linker>(
     ensures asked { (L.state links.new).asked ≡ (L.state links.old).asked }
     ensures faults { (L.state links.new).faults ≡ (L.state links.old).faults }
     ensures always_ready { (L.state links.new).always_ready ≡ (L.state links.old).always_ready }
+    ensures connections { SameConnections (L.state links.old) (L.state links.new) }
 {
     // Behind this its lines aren't there any more.
     let Ok((prepared, outline)) = prepare(alloc, script) else {

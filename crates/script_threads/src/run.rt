@@ -8,7 +8,7 @@ ghost use Rattle.sock_io.specs.FaultCauses.{Rose};
 ghost use Rattle.sock_io.specs.LinkHalves.{end_of};
 ghost use Rattle.sock_io.specs.MeetingOnOneThread.{AreEnds};
 ghost use Rattle.script_links.specs.OpenedLinkEnds.{AreOpened};
-ghost use Rattle.script_links.specs.LinksGivenBack.{AreNumbered, AreUntouched, IsBeginning, has_piece, specs_of};
+ghost use Rattle.script_links.specs.LinksGivenBack.{AreNumbered, AreUntouched, IsBeginning, SameConnections, has_piece, specs_of};
 ghost use Rattle.seat_programs.specs.Tasks.{plan_of, calls};
 ghost use Rattle.call_run.specs.CrewOfRun.{AreLeft};
 ghost use Rattle.call_run.specs.link_crew.specs.ComparedLinkEnds.{MetBelow};
@@ -109,6 +109,7 @@ fn meet_and_give_back<L: Linker>(links: &mut L, mut ends: Vec<Ends<L::O, L::I, L
     ensures asked { (L.state links.new).asked ≡ (L.state links.old).asked }
     ensures faults { (L.state links.new).faults ≡ (L.state links.old).faults }
     ensures always_ready { (L.state links.new).always_ready ≡ (L.state links.old).always_ready }
+    ensures connections { SameConnections (L.state links.old) (L.state links.new) }
 {
     meet_all(links, &mut ends);
     give_back(links, ends);
@@ -138,6 +139,7 @@ fn run_over<L: Linker, G: Gate + Sync, R: Threads + Wait + Sync>(
     ensures asked { (L.state links.new).asked ≡ (L.state links.old).asked }
     ensures faults { (L.state links.new).faults ≡ (L.state links.old).faults }
     ensures always_ready { (L.state links.new).always_ready ≡ (L.state links.old).always_ready }
+    ensures connections { SameConnections (L.state links.old) (L.state links.new) }
     ensures known { IsErrOf result OpenFault.Failed → ⊥ }
 {
     let count = ends.len();
@@ -233,6 +235,7 @@ pub fn run_on_threads<L: Linker, G: Gate + Sync, R: Threads + Wait + Sync>(
     ensures given_back { length (L.state links.new).back ≡ length (L.state links.new).asked }
     ensures numbered { AreNumbered 0 (L.state links.new).back }
     ensures always_ready { (L.state links.new).always_ready ≡ (L.state links.old).always_ready }
+    ensures connections { SameConnections (L.state links.old) (L.state links.new) }
     ensures later { (L.state links.old).faults ≤ (L.state links.new).faults }
     ensures failed { IsErrOf result OpenFault.Failed → Rose (L.state links.old).faults (L.state links.new).faults }
     ensures kept { (¬ IsErrOf result OpenFault.Failed) → (L.state links.new).faults ≡ (L.state links.old).faults }

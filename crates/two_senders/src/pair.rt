@@ -92,7 +92,14 @@ fn found<O: Out>(table: &SockTable<O>, mut seat: SockSeat<O>) -> Option<(SockSea
 }
 
 /// The table ends, and tells the order.
-fn end<O: Out>(alloc: Global, table: SockTable<O>, one: Sent<O>, two: Sent<O>, _ones: &[Vec<u8>], _twos: &[Vec<u8>]) -> Option<Told<O>>
+fn end<O: Out>(
+    alloc: Global,
+    table: SockTable<O>,
+    one: Sent<O>,
+    two: Sent<O>,
+    _ones: &[Vec<u8>],
+    _twos: &[Vec<u8>],
+) -> Option<Told<O>>
     requires one { HasDone table.rule.table.shared.table_id table.rule.plan (messages 0 _ones.now one.count) one.seat }
     requires two { HasDone table.rule.table.shared.table_id table.rule.plan (messages 1 _twos.now two.count) two.seat }
     requires all { table.rule.plan.seats ≡ 2 }

@@ -3,7 +3,6 @@ use Rattle.std.proofs.lemmas.Grind.{common_steps}
 use mathlib.Core.Logic.{dite}
 use native.Mathlib.Decide.{ℕ_discrete}
 use Rattle.sock_words.specs.ErrorCodes.{ERPCTIMEDOUT}
-use Rattle.sock_words.specs.declared.outcome.Outcome.{Outcome}
 use Rattle.sock_words.specs.declared.outcome.Outcome.TheVariants.{NotBegun}
 use Rattle.sock_words.specs.PackedWords.{id_slot, id_first}
 use Rattle.corr_core.specs.IdSlotWord.{parts}

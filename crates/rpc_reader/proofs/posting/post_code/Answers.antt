@@ -2,7 +2,7 @@ use Rattle.std.proofs.Common.{ℕ, refl, subst, arith}
 use Rattle.std.specs.Prelude.{Option}
 use Rattle.corr_id.specs.declared.posts.Posted.TheVariants as posted
 use Rattle.corr_id.specs.SeatBehindIdCalls.{Found, is_saw}
-use Rattle.corr_id.specs.PostAnswers.{PostOk, PostedNow}
+use Rattle.corr_id.specs.PostAnswers.{PostOk}
 use Rattle.rpc_reader.specs.PostingAtReadingEnd.{call_at}
 use Rattle.rpc_reader.proofs.posting.post_code.Goals as goal
 use Rattle.sock_words.specs.PackedWords.{id_slot}
@@ -13,7 +13,6 @@ returns-in-Queued-clause-posted g c = let slots = c.args.ids.now.plan.slots in l
       answer = posted.Queued;
       seen = u;
       posted = subst (λ (o : Option ℕ). PostOk slots v u (call_at w) c.args.code o posted.Queued) c.attempt_of-attempt.ensures.attempt (subst (λ (n : ℕ). PostOk slots v u n c.args.code c.attempt_of-attempt.result posted.Queued) c.id_at.ensures.id queued);
-      now = subst (λ (o : Option ℕ). PostedNow slots v u (call_at w) c.args.code o posted.Queued) c.attempt_of-attempt.ensures.attempt (subst (λ (n : ℕ). PostedNow slots v u n c.args.code c.attempt_of-attempt.result posted.Queued) c.id_at.ensures.id c.in-Queued.ensures.found_now);
       none_kept = (none_.0, (found, none_.1.1), none_.2);
       then_ = refl;
     }

@@ -56,6 +56,10 @@ pub returns-clause-back : goal.returns-clause-back
 returns-clause-back g c =
     ap length c.give_back-2.ensures.back ∙ ap length c.finish-outcomes.ensures.ends ∙ c.play-played.ensures.ends.as_many ∙ ap length c.in-Ok-of.ensures.over.ends ∙ length-map c.args.ends.items (λ e. end_of (g.L.O.Out.state e.out) (g.L.I.In.state e.inn))
 
+pub returns-clause-connections : goal.returns-clause-connections
+returns-clause-connections g c =
+    let given = c.give_back-2.ensures.connections in let says = c.play-played.ensures.says in (given.0 ∙ ap (λ (s : LinkerState). s.accepted) says, given.1 ∙ ap (λ (s : LinkerState). s.done) says)
+
 pub returns-clause-text : goal.returns-clause-text
 returns-clause-text g c =
     let links = map (λ e. end_of (g.L.O.Out.state e.out) (g.L.I.In.state e.inn)) in

@@ -21,6 +21,6 @@ publish-requires-clause-known g c = record { inside = c.in-Ok.ensures.made.0; kn
 pub returns : goal.returns
 returns g c = let z = c.args.table.now.rule.table.shared.table_id in let p = c.args.table.now.rule.plan in (
   stored_ready z p _ _ c.in-Ok.id.0 c.create.new.seat c.publish.new.seat (kept_free z p c.args.seat c.create.new.seat c.requires.seat c.create.ensures.seat c.create.ensures.slots c.create.ensures.between c.create.ensures.same)
-  record { inside = c.in-Ok.ensures.made.0; known = c.in-Ok.ensures.made.1 } c.publish.ensures.seat c.publish.ensures.published c.publish.ensures.between c.publish.ensures.same,
+      record { inside = c.in-Ok.ensures.made.0; known = c.in-Ok.ensures.made.1 } c.publish.ensures.seat c.publish.ensures.published c.publish.ensures.between c.publish.ensures.same,
   same_sent p c.create.new.seat.me.0 c.publish.new.seat.me.0 c.publish.ensures.same ∙ (same_sent p c.args.seat.me.0 c.create.new.seat.me.0 c.create.ensures.same ∙ c.requires.new),
 )
