@@ -78,7 +78,8 @@ fn push_order(text: &mut Vec<u8>, order: &[u32]) -> Result<(), AllocError>
     for line in order {
         push_number_word(text, u64::from(*line))?;
     }
-    text.push(b'\n')
+    text.push(b'\n')?;
+    Ok(())
 }
 
 /// Appends the line of an account, which has none where it is 0.
@@ -91,7 +92,8 @@ fn push_balance(text: &mut Vec<u8>, account: usize, balance: u64) -> Result<(), 
     text.extend_from_slice(b"balance")?;
     push_number_word(text, account as u64)?;
     push_number_word(text, balance)?;
-    text.push(b'\n')
+    text.push(b'\n')?;
+    Ok(())
 }
 
 /// Appends a line for each account that isn't 0.

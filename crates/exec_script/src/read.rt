@@ -1,4 +1,4 @@
-ghost use Rattle.std.specs.Prelude.{◌≡◌, ◌≤◌, ◌∷◌, ℕ, [], length, All, IfOk, IfErr, OnOk};
+ghost use Rattle.std.specs.Prelude.{◌≡◌, ◌≤◌, ◌∷◌, ◌++◌, ℕ, [], length, All, IfOk, IfErr, OnOk};
 ghost use Rattle.brpc_model.specs.Text.{words};
 ghost use Rattle.script_items.specs.FollowingLineWords.{HasFirst};
 ghost use Rattle.exec_script.specs.Scripts.{account_in, amount_in, with_amount, with_move, with_nothing, op_of_words, op_at, script_of, with_two, IsOp};
@@ -7,7 +7,7 @@ ghost use Rattle.exec_script.specs.declared.op.Change.{Change};
 use crate::fault::{BAD_NUMBER, BAD_WORDS, ExecFault, TOO_MANY, UNKNOWN_WORD};
 use crate::op::{Change, Op};
 use line_words::{first_line, first_word, wide_number};
-use std::alloc::Global;
+use std::alloc::{AllocError, Global};
 use std::marker::Model;
 
 /// The most lines of a script.
@@ -116,6 +116,14 @@ fn read_line(number: u32, line: &[u8]) -> Result<Op, u8>
     }
 }
 
+/// Keeps what one more line asks for.
+fn keep(ops: &mut Vec<Op>, op: Op) -> Result<(), AllocError>
+    ensures { OnOk result (ops.new.items ≡ ops.old.items ++ op ∷ []) }
+{
+    ops.push(op)?;
+    Ok(())
+}
+
 /// A script: what each line asks for. It has at most 4,096 lines.
 #[derive(Drop)]
 pub struct ExecScript {
@@ -157,7 +165,7 @@ impl ExecScript {
         while !rest.is_empty() {
             let (line, behind) = first_line(rest);
             match read_line(number, line) {
-                Ok(op) => ops.push(op)?,
+                Ok(op) => keep(&mut ops, op)?,
                 Err(kind) => return Err(ExecFault::Fault { line: number, kind }),
             }
             number += 1;
