@@ -1,5 +1,5 @@
 -- The script of an execution queue that some bytes are, or the first line with a fault and the kind of the fault.
-use Rattle.std.specs.Prelude.{ℕ, ◌+◌, ◌≤◌, ⊤, nat_le, if◌then◌else◌, List, [], ◌∷◌, ◌++◌, length, fold, codes, bytes_eq, ok_or, decimal, Ok, Err}
+use Rattle.std.specs.Prelude.{ℕ, ◌+◌, ◌≤◌, ◌==◌, ⊤, nat_le, if◌then◌else◌, List, [], ◌∷◌, ◌++◌, length, fold, codes, bytes_eq, ok_or, decimal, Ok, Err}
 use Rattle.std.specs.Str.Lines.{lines}
 use Rattle.brpc_model.specs.Text.{words}
 use Rattle.brpc_model.specs.NumberInRange.{number}
@@ -9,6 +9,7 @@ use Rattle.exec_script.specs.declared.op.Op.{Op}
 use Rattle.exec_script.specs.declared.op.Op.TheVariants.{Task, Stop}
 use Rattle.exec_script.specs.declared.op.Change.{Change}
 use Rattle.exec_script.specs.declared.op.Change.TheVariants.{Add, Sub, Move}
+use Rattle.exec_script.specs.declared.op.ChangeParts.{ChangeParts}
 
 -- ## A line
 
@@ -84,6 +85,10 @@ IsChange (Move from_ to amount) = (from_ ≤ 15) × (to ≤ 15)
 abbrev pub IsOp : Op → Type 0
 IsOp (Task change) = IsChange change
 IsOp Stop = ⊤
+
+-- the change that these numbers are
+abbrev pub change_of : ChangeParts → Change
+change_of parts = if parts.kind == 1 then Add parts.a parts.amount else if parts.kind == 2 then Sub parts.a parts.amount else Move parts.a parts.b parts.amount
 
 -- the line that is printed where a script has a fault
 abbrev pub fault_text : ℕ → ℕ → List ℕ

@@ -12,6 +12,6 @@ mod told;
 pub use accounts::Accounts;
 pub use ending::push_ending;
 pub use fault::{ExecFault, push_fault};
-pub use op::{Change, Op};
+pub use op::{Change, ChangeParts, Op};
 pub use read::ExecScript;
 pub use told::{Answer, Told};
