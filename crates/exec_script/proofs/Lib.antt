@@ -1,1 +1,2 @@
 pub mod LineByLine
+pub mod TasksOfLines
