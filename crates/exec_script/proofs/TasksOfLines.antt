@@ -1,9 +1,9 @@
 -- The accounts behind tasks that are those of their lines, for whoever runs them.
-use Rattle.std.proofs.Common.{◌≡◌, ℕ, zero, suc, List, [], ◌∷◌, ◌++◌, Some, take, refl, ap, sym, ◌∙◌}
+use Rattle.std.proofs.Common.{◌≡◌, ℕ, zero, suc, List, [], ◌∷◌, ◌++◌, Some, take, refl, ap, ◌∙◌}
 use Rattle.std.specs.Prelude.{length, map, fold, filter_map}
 use Rattle.std.specs.List.{AllByRecursion}
 use Rattle.exec_script.specs.declared.op.Op.{Op}
-use Rattle.exec_script.specs.Accounting.{Book, Run, book_behind, book_after, run_at, book_of}
+use Rattle.exec_script.specs.Accounting.{Run, book_behind, book_after, run_at, book_of}
 
 fold_more : {A B : Type 0} (f : A → B → A) (a : A) (xs : List B) (x : B) → fold f a (xs ++ x ∷ []) ≡ f (fold f a xs) x
 fold_more f a [] x = refl

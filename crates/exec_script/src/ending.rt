@@ -26,11 +26,7 @@ fn push_told(text: &mut Vec<u8>, told: Option<Told>) -> Result<(), AllocError>
 }
 
 /// Appends what became of a line.
-fn push_answer(
-    text: &mut Vec<u8>,
-    answer: Answer,
-    told: Option<Told>,
-) -> Result<(), AllocError>
+fn push_answer(text: &mut Vec<u8>, answer: Answer, told: Option<Told>) -> Result<(), AllocError>
     ensures { OnOk result (text.new.items ≡ text.old.items ++ word (answer_text answer told)) }
 {
     match answer {
