@@ -4,6 +4,7 @@
 #![tactic(auto)]
 
 mod bytes;
+mod execs;
 mod frames;
 mod metas;
 mod reports;

@@ -1,5 +1,6 @@
 //! What a row asks.
 use crate::bytes::said_of;
+use crate::execs::{ended, fault_or_ops, played};
 use crate::reports::{report, summary, untold};
 use crate::scripts::{drawn_seats, fault_or_count, large, printed, sizes, small};
 use row_text::{expanded, number};
@@ -15,6 +16,7 @@ pub fn answer(alloc: Global, row: &str) -> Result<String, AllocError> {
         "line" => line_said(alloc, rest),
         "generate" => generated(alloc, rest),
         "seats" => drawn_seats(alloc),
+        "ended" => ended_said(alloc, rest),
         _ => said_by(alloc, row, word, rest),
     }
 }
@@ -50,8 +52,26 @@ fn report_said(alloc: Global, row: &str, word: &str, text: &str) -> Result<Strin
         "report" => report(alloc, text),
         "untold" => untold(alloc, text),
         "summary" => summary(alloc, text),
+        _ => queue_said(alloc, row, word, text),
+    }
+}
+
+/// And of a script of an execution queue.
+fn queue_said(alloc: Global, row: &str, word: &str, text: &str) -> Result<String, AllocError> {
+    match word {
+        "ops" => fault_or_ops(alloc, text),
+        "exec" => played(alloc, text),
         _ => String::from_str(alloc, row),
     }
+}
+
+/// What is printed of a queue that ended, by a letter for each line.
+fn ended_said(alloc: Global, rest: &str) -> Result<String, AllocError> {
+    let Some((letters, quoted)) = rest.split_once(" ") else {
+        return String::from_str(alloc, "no text");
+    };
+    let text = expanded(alloc, unquoted(quoted))?;
+    ended(alloc, letters, text.as_str())
 }
 
 fn generated(alloc: Global, size: &str) -> Result<String, AllocError> {

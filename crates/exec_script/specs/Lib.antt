@@ -1,0 +1,4 @@
+pub mod Scripts
+pub mod Accounting
+pub mod Endings
+pub mod QueueEnds
