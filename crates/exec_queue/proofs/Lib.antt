@@ -1,2 +1,3 @@
 pub mod TasksOfBytes
+pub mod SubmitterNotes
 pub mod SubmitterCalls
