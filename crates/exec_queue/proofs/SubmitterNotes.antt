@@ -70,8 +70,8 @@ module _ (id : ℕ) where
       lates (inr x) (inl y) = inr (later_still m v w b x)
 
   -- what is known of its notes is known still
-  pub notes_fit : (p : Plan) (stops n : ℕ) (told full : Bool) (v w : View) → NotesFit p id stops told full v → Grew id n v w → NotesFit p id (stops + n) told full w
-  notes_fit p stops n told full v w f g = record {
+  pub notes_fit : (p : Plan) (stops n : ℕ) (heard full : Bool) (v w : View) → NotesFit p id stops heard full v → Grew id n v w → NotesFit p id (stops + n) heard full w
+  notes_fit p stops n heard full v w f g = record {
     failed = fails f.failed g.failed;
     dead = λ some_. die g.failed some_;
     later = λ e. later_still n v w g (f.later e);
@@ -94,22 +94,22 @@ module _ (id : ℕ) where
           late (inl e) = later_still n v w g (f.dead (omega arith))
 
   -- and it is remembered what was answered
-  pub now_told : (p : Plan) (stops : ℕ) (told full : Bool) (v : View) → NotesFit p id stops told full v → SawLater id v → NotesFit p id stops true full v
-  now_told p stops told full v f l = record { failed = f.failed; dead = f.dead; later = λ e. l; taken = f.taken; made = f.made }
+  pub now_told : (p : Plan) (stops : ℕ) (heard full : Bool) (v : View) → NotesFit p id stops heard full v → SawLater id v → NotesFit p id stops true full v
+  now_told p stops heard full v f l = record { failed = f.failed; dead = f.dead; later = λ e. l; taken = f.taken; made = f.made }
 
-  pub now_full : (p : Plan) (stops : ℕ) (told full : Bool) (v : View) → NotesFit p id stops told full v → ((q : ℕ) → q < p.requests → FoundTaken p q v.found) → NotesFit p id stops told true v
-  now_full p stops told full v f t = record { failed = f.failed; dead = f.dead; later = f.later; taken = λ e. t; made = f.made }
+  pub now_full : (p : Plan) (stops : ℕ) (heard full : Bool) (v : View) → NotesFit p id stops heard full v → ((q : ℕ) → q < p.requests → FoundTaken p q v.found) → NotesFit p id stops heard true v
+  now_full p stops heard full v f t = record { failed = f.failed; dead = f.dead; later = f.later; taken = λ e. t; made = f.made }
 
-  none_told : (told : Bool) (v : View) → (told ≡ true → SawLater id v) → NoneLater id v → told ≡ false
+  none_told : (heard : Bool) (v : View) → (heard ≡ true → SawLater id v) → NoneLater id v → heard ≡ false
   none_told false v l n = refl
   none_told true v l n = (let s = l refl in let b = n s.0 s.2 in absurd (omega (arith, s.1, b)))
 
   -- a seat that found the life alive was answered nothing of the kind, and never stopped it
-  pub never_failed : (p : Plan) (stops : ℕ) (told full : Bool) (v : View) → NotesFit p id stops told full v → NoneLater id v → failings id v ≡ 0
-  never_failed p stops told full v f n = dite (ℕ_discrete (failings id v) 0) (λ e. e) (λ ne. (let s = f.dead (omega (arith, ne)) in let b = n s.0 s.2 in absurd (omega (arith, s.1, b))))
+  pub never_failed : (p : Plan) (stops : ℕ) (heard full : Bool) (v : View) → NotesFit p id stops heard full v → NoneLater id v → failings id v ≡ 0
+  never_failed p stops heard full v f n = dite (ℕ_discrete (failings id v) 0) (λ e. e) (λ ne. (let s = f.dead (omega (arith, ne)) in let b = n s.0 s.2 in absurd (omega (arith, s.1, b))))
 
-  pub never_stopped : (p : Plan) (stops : ℕ) (told full : Bool) (v : View) → NotesFit p id stops told full v → NoneLater id v → (told ≡ false) × (stops ≡ 0)
-  never_stopped p stops told full v f n = (none_told told v f.later n, (let z = never_failed p stops told full v f n in by_cases f.failed z))
+  pub never_stopped : (p : Plan) (stops : ℕ) (heard full : Bool) (v : View) → NotesFit p id stops heard full v → NoneLater id v → (heard ≡ false) × (stops ≡ 0)
+  never_stopped p stops heard full v f n = (none_told heard v f.later n, (let z = never_failed p stops heard full v f n in by_cases f.failed z))
     where
       by_cases : Failed id stops v → failings id v ≡ 0 → stops ≡ 0
       by_cases (inl x) z = omega arith
@@ -117,8 +117,8 @@ module _ (id : ℕ) where
 
 -- ## A whole call
 
-  pub notes_still : (p : Plan) (stops : ℕ) (told full : Bool) (v w : View) → NotesFit p id stops told full v → Grew id 0 v w → NotesFit p id stops told full w
-  notes_still p stops told full v w f g = subst (λ (n : ℕ). NotesFit p id n told full w) (let e : stops + 0 ≡ stops = omega arith in e) (notes_fit p stops 0 told full v w f g)
+  pub notes_still : (p : Plan) (stops : ℕ) (heard full : Bool) (v w : View) → NotesFit p id stops heard full v → Grew id 0 v w → NotesFit p id stops heard full w
+  notes_still p stops heard full v w f g = subst (λ (n : ℕ). NotesFit p id n heard full w) (let e : stops + 0 ≡ stops = omega arith in e) (notes_fit p stops 0 heard full v w f g)
 
   pub stopped_later : (found : ℕ) (v w : View) → FoundStopped id found v w → SawLater id w
   stopped_later found v w s = (vref_version found, s.later, (let a = s.saw in omega arith))
@@ -196,27 +196,30 @@ ended_none p true x notes is = (λ h k. ap (total (is_linked h k)) is.1 ∙ link
     fail h true = refl
     fail h false = refl
 
+saw_first : (x : ℕ) (ms : List Mark) → 0 < total (is_saw x) (Saw x ∷ ms)
+saw_first x ms = (let o = only-same x in omega arith)
+
 module _ (id : ℕ) (v w : View) where
   pub held_grew : Held id v w → Grew id 0 v w
-  held_grew a = grew_by id 0 v w _ [] a.here (none_goes id) (λ h k. refl) (inl refl) (inl refl) (same_found v w (ap (λ (y : View). y.found) a.others))
+  held_grew a = grew_by id 0 v w (Saw (socket_id_version id) ∷ Hold (socket_id_version id) ∷ []) [] a.here (none_goes id) (λ h k. refl) (inl refl) (inl refl) (same_found v w (ap (λ (y : View). y.found) a.others))
 
   pub gone_grew : (found : ℕ) → GoneFrom id found v w → Grew id 0 v w
-  gone_grew found g = let n = ended_none v.plan g.ended g.version g.notes g.by in grew_by id 0 v w (Saw (vref_version found) ∷ g.notes) [] g.became.here (none_goes id) n.0 (inl (n.1 (socket_id_version id))) (inl refl) (same_found v w (ap (λ (y : View). y.found) g.became.others))
+  gone_grew found g = let n = ended_none v.plan g.ended g.version g.notes g.by in grew_by id 0 v w (Saw (vref_version found) ∷ g.notes) [] g.became.here (none_goes id) (λ h k. (let e = n.0 h k in omega arith)) (inl (let e = n.1 (socket_id_version id) in omega arith)) (inl refl) (same_found v w (ap (λ (y : View). y.found) g.became.others))
 
   pub gone_stopped : (found : ℕ) → GoneFrom id found v w → FoundStopped id found v w
-  gone_stopped found g = record { later = g.later; saw = saw_it id 0 v w (Saw (vref_version found) ∷ g.notes) [] g.became.here (none_goes id) (vref_version found) (let o = only-same (vref_version found) in omega arith) }
+  gone_stopped found g = record { later = g.later; saw = saw_it id 0 v w (Saw (vref_version found) ∷ g.notes) [] g.became.here (none_goes id) (vref_version found) (saw_first (vref_version found) g.notes) }
 
   pub back_grew : (ended : Bool) → GaveBack (socket_id_slot id) v w (Hold (socket_id_version id)) ended → Grew id 0 v w
-  back_grew ended g = let n = ended_none v.plan ended g.version g.notes g.by in grew_by id 0 v w g.notes _ g.became.here (hold_goes id (socket_id_version id)) n.0 (inl (n.1 (socket_id_version id))) (inl refl) (same_found v w (ap (λ (y : View). y.found) g.became.others))
+  back_grew ended g = let n = ended_none v.plan ended g.version g.notes g.by in grew_by id 0 v w g.notes (Hold (socket_id_version id) ∷ []) g.became.here (hold_goes id (socket_id_version id)) n.0 (inl (n.1 (socket_id_version id))) (inl refl) (same_found v w (ap (λ (y : View). y.found) g.became.others))
 
   pub failed_grew : (code : ℕ) → FailedBy id code v w → Grew id 1 v w
-  failed_grew code a = let h = socket_id_version id in grew_by id 1 v w _ [] a.here (none_goes id) (λ g k. refl) (inl (let o = only-same h in omega arith)) (inr (h + 1, omega arith, (let b = a.here (is_saw (h + 1)) in let o = only-same (h + 1) in omega arith))) (same_found v w (ap (λ (y : View). y.found) a.others))
+  failed_grew code a = let h : ℕ = socket_id_version id in grew_by id 1 v w (Failer h ∷ Saw (h + 1) ∷ Stored h code ∷ Told h code ∷ []) [] a.here (none_goes id) (λ g k. refl) (inl (let o = only-same h in omega arith)) (inr (h + 1, omega arith, (let b = a.here (is_saw (h + 1)) in let o = only-same (h + 1) in omega arith))) (same_found v w (ap (λ (y : View). y.found) a.others))
 
   saw_grew : (x : ℕ) → Became (socket_id_slot id) v w (Saw x ∷ []) [] → Grew id 0 v w
-  saw_grew x a = grew_by id 0 v w _ [] a.here (none_goes id) (λ h k. refl) (inl refl) (inl refl) (same_found v w (ap (λ (y : View). y.found) a.others))
+  saw_grew x a = grew_by id 0 v w (Saw x ∷ []) [] a.here (none_goes id) (λ h k. refl) (inl refl) (inl refl) (same_found v w (ap (λ (y : View). y.found) a.others))
 
   saw_stopped : (found : ℕ) → vref_version found ≡ socket_id_version id + 1 → Became (socket_id_slot id) v w (Saw (vref_version found) ∷ []) [] → FoundStopped id found v w
-  saw_stopped found e a = record { later = omega arith; saw = saw_it id 0 v w _ [] a.here (none_goes id) (vref_version found) (let o = only-same (vref_version found) in omega arith) }
+  saw_stopped found e a = record { later = omega arith; saw = saw_it id 0 v w (Saw (vref_version found) ∷ []) [] a.here (none_goes id) (vref_version found) (saw_first (vref_version found) []) }
 
   pub found_failed_grew : (found : ℕ) → FoundFailed id found v w → Grew id 0 v w
   found_failed_grew found a = saw_grew (vref_version found) a.1
@@ -225,7 +228,7 @@ module _ (id : ℕ) (v w : View) where
   found_failed_stopped found a = saw_stopped found a.0 a.1
 
   accepted_grew : (p : Plan) (heading : Heading) (bytes : List ℕ) → Accepted (Saw (socket_id_version id) ∷ []) p id heading bytes v w → Grew id 0 v w
-  accepted_grew p heading bytes a = grew_by id 0 v w _ [] a.marks.here (none_goes id) (λ h k. refl) (inl refl) (inl refl) a.seen
+  accepted_grew p heading bytes a = grew_by id 0 v w (Met (socket_id_version id) a.entry.link ∷ Saw (socket_id_version id) ∷ []) [] a.marks.here (none_goes id) (λ h k. refl) (inl refl) (inl refl) a.seen
 
 module _ (v w : View) (p : Plan) (sock : SockRef) where
   pub started_grew : {O : Type 0} {g : Ghosts O} (heading : Heading) (bytes : List ℕ) (s : Started O g) → StartedBy p sock heading bytes s v w → Grew sock.id.0 0 v w
@@ -234,7 +237,7 @@ module _ (v w : View) (p : Plan) (sock : SockRef) where
 
   pub refused_grew : (msg : Letter) (r : Refused) → RefusedBy p sock msg r v w → Grew sock.id.0 0 v w
   refused_grew msg (refused.Failed s m found) b = saw_grew sock.id.0 v w _ b.3
-  refused_grew msg (refused.Full s m) b = grew_by sock.id.0 0 v w _ [] b.7.here (none_goes sock.id.0) (λ h k. refl) (inl refl) (inl refl) b.9
+  refused_grew msg (refused.Full s m) b = grew_by sock.id.0 0 v w (Saw (socket_id_version sock.id.0) ∷ []) [] b.7.here (none_goes sock.id.0) (λ h k. refl) (inl refl) (inl refl) b.9
 
   -- why it was refused
   pub failed_stopped : (msg m : Letter) (s : SockRef) (found : Vref) (r : Refused) → r ≡ refused.Failed s m found → RefusedBy p sock msg r v w → FoundStopped sock.id.0 found.0 v w
