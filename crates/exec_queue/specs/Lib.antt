@@ -2,4 +2,5 @@ pub mod Tasks
 pub mod TasksTaken
 pub mod StoppedQueue
 pub mod Submitters
+pub mod NewQueue
 pub mod EndedQueue
