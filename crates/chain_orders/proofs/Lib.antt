@@ -1,0 +1,5 @@
+pub mod MergedLists
+pub mod OwnPlaces
+pub mod NotesOfSeats
+pub mod OrderOfClosedTable
+pub mod SenderCalls

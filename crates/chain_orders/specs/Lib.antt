@@ -1,0 +1,3 @@
+pub mod SentMessages
+pub mod ListsInOneOrder
+pub mod MessagesInOneOrder
