@@ -1,0 +1,2 @@
+pub mod TasksOfBytes
+pub mod SubmitterCalls

@@ -1,0 +1,4 @@
+pub mod Tasks
+pub mod TasksTaken
+pub mod Submitters
+pub mod EndedQueue

@@ -1,0 +1,29 @@
+// The order in which tasks were accepted, out of the words of their places.
+use sock_words::PlaceWord;
+
+/// What the place words tell: how many tasks were accepted, and how many of these were run.
+#[derive(Clone, Copy)]
+pub struct Counts {
+    pub accepted: usize,
+    pub ran: usize,
+}
+
+/// Puts each line at its position. The order has room for each line.
+pub fn put_lines(words: &[PlaceWord], order: &mut [u32]) -> Counts {
+    let mut counts = Counts {
+        accepted: 0,
+        ran: 0,
+    };
+    for line in 0..order.len() {
+        let word = words[8 * line];
+        if !word.is_none() {
+            let position = word.position() as usize;
+            order[position] = line as u32 + 1;
+            counts.accepted = counts.accepted.max(position + 1);
+            if !word.dropped() {
+                counts.ran = counts.ran.max(position + 1);
+            }
+        }
+    }
+    counts
+}
