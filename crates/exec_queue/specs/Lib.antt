@@ -1,4 +1,5 @@
 pub mod Tasks
 pub mod TasksTaken
+pub mod StoppedQueue
 pub mod Submitters
 pub mod EndedQueue

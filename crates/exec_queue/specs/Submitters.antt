@@ -12,6 +12,7 @@ use Rattle.exec_queue.specs.declared.task.Task.{Task}
 use Rattle.exec_queue.specs.declared.queue.TaskSubmitter.{TaskSubmitter}
 use Rattle.exec_queue.specs.declared.queue.TaskQueue.{TaskQueue}
 use Rattle.exec_queue.specs.Tasks.{IsTask, task_bytes}
+use Rattle.exec_queue.specs.StoppedQueue.{NotesFit}
 
 -- one slot, one link, one name; as many requests and lines as a queue has
 pub record IsQueuePlan (p : Plan) : Type 0 where
@@ -59,3 +60,4 @@ pub record IsSubmitter {O : Type 0} {g : Ghosts O} (q : TaskQueue O g) (ts : Lis
   pub lists : s.seat.me.0.lists ≡ own ∷ []
   pub submitted : AreSubmitted s.number ts own
   pub differ : LinesDiffer ts
+  pub noted : NotesFit q.table.rule.plan q.id.0 s.stops s.told s.full s.seat.me.0

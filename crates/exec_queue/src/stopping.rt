@@ -1,6 +1,7 @@
 // A queue is stopped.
-ghost use Rattle.std.specs.Prelude.{◌≡◌, List, true, OnErr, OnOk};
+ghost use Rattle.std.specs.Prelude.{◌≡◌, List, true, false, OnErr, OnOk, IfErr};
 ghost use Rattle.exec_queue.specs.declared.task.Task as model;
+ghost use Rattle.exec_queue.specs.StoppedQueue.{failings, FoundStopped};
 ghost use Rattle.exec_queue.specs.Submitters.{IsQueuePlan, IsSubmitter};
 
 use crate::queue::{TaskQueue, TaskSubmitter};
@@ -23,7 +24,12 @@ impl<O: Out> TaskQueue<O> {
         requires by { IsSubmitter self.now ts by.old }
         ensures by { IsSubmitter self.now ts by.new }
         ensures number { by.new.number ≡ by.old.number }
-        ensures told { OnErr result (by.new.told ≡ true) }
+        ensures first { OnOk result ((by.old.told ≡ false) × (by.old.stops ≡ 0)) }
+        ensures stopped { OnOk result ((by.new.stops ≡ 1) × (failings self.now.id.0 by.new.seat.me.0 ≡ 1)) }
+        ensures already { IfErr result (λ e. FoundStopped self.now.id.0 e.found.0 by.old.seat.me.0 by.new.seat.me.0) }
+        ensures told { OnErr result ((by.new.told ≡ true) × (by.new.stops ≡ by.old.stops)) }
+        ensures same { OnOk result (by.new.told ≡ by.old.told) }
+        ensures full { by.new.full ≡ by.old.full }
     {
         let sock = match self.table.add_reference(&mut by.seat, self.id) {
             Ok(sock) => sock,

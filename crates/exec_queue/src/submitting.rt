@@ -1,5 +1,5 @@
 // Tasks are submitted, and run by whoever has the right.
-ghost use Rattle.std.specs.Prelude.{◌≡◌, ◌++◌, ◌∷◌, ◌<◌, ◌≤◌, [], List, OnOk, OnErr, IfSome};
+ghost use Rattle.std.specs.Prelude.{◌≡◌, ◌++◌, ◌∷◌, ◌<◌, ◌≤◌, [], List, OnOk, OnErr, IfErr, IfSome, false};
 ghost use Rattle.message_parts.specs.Parcels.{parcel_of};
 ghost use Rattle.sock_rule.specs.SocketSeatSplits.{IsSeat};
 ghost use Rattle.sock_rule.specs.Shows.{heading_of};
@@ -7,6 +7,7 @@ ghost use Rattle.write_chain.specs.WritingRightInHand.{MayBegin, MayGoOn, Begins
 ghost use Rattle.write_chain.specs.ReadyToSend.{HoldsOne, sock_of};
 ghost use Rattle.exec_queue.specs.declared.task.Task as model;
 ghost use Rattle.exec_queue.specs.Tasks.{IsTask, task_bytes};
+ghost use Rattle.exec_queue.specs.StoppedQueue.{RefusedFor, told_by, full_by};
 ghost use Rattle.exec_queue.specs.Submitters.{HasLine, heading_of_task, IsFreshLine, IsQueuePlan, IsSubmitter};
 
 use crate::queue::{TaskQueue, TaskSubmitter};
@@ -157,6 +158,10 @@ impl<O: Out> TaskQueue<O> {
         ensures err { OnErr result (IsSubmitter self.now ts by.new) }
         ensures number { by.new.number ≡ by.old.number }
         ensures stops { by.new.stops ≡ by.old.stops }
+        ensures live { OnOk result ((by.old.told ≡ false) × (by.old.stops ≡ 0)) }
+        ensures same { OnOk result ((by.new.told ≡ by.old.told) × (by.new.full ≡ by.old.full)) }
+        ensures refused { IfErr result (λ e. RefusedFor self.now.table.rule.plan self.now.id.0 e by.old.seat.me.0 by.new.seat.me.0) }
+        ensures told { IfErr result (λ e. (by.new.told ≡ told_by e by.old.told) × (by.new.full ≡ full_by e by.old.full)) }
     {
         let Some(msg) = letter(alloc, pool, by.number, task) else {
             return Err(NotSubmitted::NoMemory);
