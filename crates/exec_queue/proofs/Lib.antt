@@ -1,2 +1,3 @@
+pub mod PositionsOfLines
 pub mod TasksOfBytes
 pub mod SubmitterCalls

@@ -3,3 +3,4 @@ pub mod TasksTaken
 pub mod StoppedQueue
 pub mod Submitters
 pub mod EndedQueue
+pub mod LinesInOrder
