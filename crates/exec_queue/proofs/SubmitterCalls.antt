@@ -14,15 +14,20 @@ use Rattle.sock_model.specs.ChainRows.{more}
 use Rattle.sock_model.specs.Rule.{MOST_ACCEPTED}
 use Rattle.sock_rule.specs.SocketSeatSplits.{IsSeat}
 use Rattle.sock_table.specs.ReferenceCalls.{IsBetween, GaveBack}
-use Rattle.sock_table.specs.ReferenceAnswers.{GoneFrom}
+use Rattle.sock_table.specs.ReferenceAnswers.{GoneFrom, Held, FailedBy, NoneLater}
 use Rattle.sock_open.proofs.SeatsHoldingNothing.{gone_same, known_by}
 use Rattle.write_chain.specs.declared.right.Undelivered.{Undelivered}
 use Rattle.write_chain.specs.NotingWhileWriting.{Wrote, WroteDrop}
-use Rattle.write_chain.specs.SendingIntoChain.{HasRoom, StartedBy, RefusedBy}
+use Rattle.write_chain.specs.SendingIntoChain.{HasRoom, StartedBy, RefusedBy, FullNow}
 use Rattle.write_chain.specs.ReadyToSend.{IsReady, HoldsOne}
-use Rattle.write_chain.proofs.SeatBetweenMessages.{gone_spent, let_go_ready}
+use Rattle.write_chain.proofs.SeatBetweenMessages.{gone_spent, let_go_ready, noted_one}
 use Rattle.sock_model.specs.declared.chain.Heading.{Heading}
+use Rattle.sock_model.specs.declared.marks.Mark.{Mark}
 use Rattle.sock_model.specs.declared.marks.Mark.TheVariants.{Hold}
+use Rattle.sock_model.specs.MarkWeights.{is_ref, is_failer}
+use Rattle.sock_open.specs.slot_steps.proofs.RuleNumbers.{only-same}
+use Rattle.sock_rule.specs.MarksComeAndGo.{Became}
+use Rattle.sock_words.specs.Totals.{total}
 use Rattle.sock_rule.specs.declared.homes.Letter.{Letter}
 use Rattle.sock_rule.specs.declared.homes.SockHome.{SockHome}
 use Rattle.sock_table.specs.declared.refs.SockRef.{SockRef}
@@ -33,7 +38,9 @@ use Rattle.write_chain.specs.declared.entry.Refused.TheVariants as refused
 use Rattle.exec_queue.specs.declared.task.Task.{Task}
 use Rattle.exec_queue.specs.declared.queue.TaskQueue.{TaskQueue}
 use Rattle.exec_queue.specs.declared.queue.TaskSubmitter.{TaskSubmitter}
+use Rattle.exec_queue.specs.StoppedQueue.{NotesFit, Grew, FoundStopped, SawLater, failings}
 use Rattle.exec_queue.specs.Submitters.{AreSubmitted, IsSubmitted, IsSubmitter, IsFreshLine, LinesDiffer}
+use Rattle.exec_queue.proofs.SubmitterNotes.{ended_none, held_grew, back_grew, failed_grew, through, notes_still, notes_fit, stopped_through, stopped_later, now_told, now_full, all_taken, full_through, never_failed}
 use Rattle.std.proofs.Math.Dec.{eqb}
 
 -- what is written leaves the lists
@@ -129,12 +136,13 @@ few_entries number ts es a d = few_by 4096 number ts es (omega arith) (omega ari
 
 module _ {O : Type 0} {g : Ghosts O} (q : TaskQueue O g) where
   -- its list stays
-  pub kept_submitter : (ts : List Task) (s t : TaskSubmitter O g) → IsSubmitter q ts s → t.number ≡ s.number → IsReady q.table.rule.table.shared.table_id q.table.rule.plan q.id.0 t.seat → t.seat.me.0.lists ≡ s.seat.me.0.lists → IsSubmitter q ts t
-  kept_submitter ts s t is number ready lists = record { ready = ready; own = is.own; lists = lists ∙ is.lists; submitted = subst (λ (n : ℕ). AreSubmitted n ts is.own) (sym number) is.submitted; differ = is.differ }
+  pub kept_submitter : (ts : List Task) (s t : TaskSubmitter O g) → IsSubmitter q ts s → t.number ≡ s.number → IsReady q.table.rule.table.shared.table_id q.table.rule.plan q.id.0 t.seat → t.seat.me.0.lists ≡ s.seat.me.0.lists → NotesFit q.table.rule.plan q.id.0 t.stops t.told t.full t.seat.me.0 → IsSubmitter q ts t
+  kept_submitter ts s t is number ready lists noted = record { noted = noted; ready = ready; own = is.own; lists = lists ∙ is.lists; submitted = subst (λ (n : ℕ). AreSubmitted n ts is.own) (sym number) is.submitted; differ = is.differ }
 
   -- or gets a task more
-  pub more_submitter : (ts : List Task) (t : Task) (e : Entry) (s s' : TaskSubmitter O g) → IsSubmitter q ts s → s'.number ≡ s.number → IsReady q.table.rule.table.shared.table_id q.table.rule.plan q.id.0 s'.seat → s'.seat.me.0.lists ≡ more s.seat.me.0.lists e → IsSubmitted s.number t e → IsFreshLine t.line ts → IsSubmitter q (ts ++ t ∷ []) s'
-  more_submitter ts t e s s' is number ready lists of fresh = record {
+  pub more_submitter : (ts : List Task) (t : Task) (e : Entry) (s s' : TaskSubmitter O g) → IsSubmitter q ts s → s'.number ≡ s.number → IsReady q.table.rule.table.shared.table_id q.table.rule.plan q.id.0 s'.seat → s'.seat.me.0.lists ≡ more s.seat.me.0.lists e → IsSubmitted s.number t e → IsFreshLine t.line ts → NotesFit q.table.rule.plan q.id.0 s'.stops s'.told s'.full s'.seat.me.0 → IsSubmitter q (ts ++ t ∷ []) s'
+  more_submitter ts t e s s' is number ready lists of fresh noted = record {
+    noted = noted;
     ready = ready;
     own = is.own ++ e ∷ [];
     lists = lists ∙ ap (λ (l : List (List Entry)). more l e) is.lists;
@@ -180,8 +188,47 @@ module _ {O : Type 0} {g : Ghosts O} (q : TaskQueue O g) (ts : List Task) (s s' 
   same_lists : s'.seat.me.0.lists ≡ u.me.0.lists
   same_lists = ap (λ (y : View). y.lists) back.became.others
 
-  pub released : u.me.0.lists ≡ s.seat.me.0.lists → IsSubmitter q ts s'
-  released lists = kept_submitter q ts s s' is number (ready_again record { made = is.own; taken_in = []; lists = lists ∙ is.lists; room = few_entries s.number ts is.own is.submitted is.differ }) (same_lists ∙ lists)
+  pub released : u.me.0.lists ≡ s.seat.me.0.lists → NotesFit q.table.rule.plan q.id.0 s'.stops s'.told s'.full s'.seat.me.0 → IsSubmitter q ts s'
+  released lists noted = kept_submitter q ts s s' is number (ready_again record { made = is.own; taken_in = []; lists = lists ∙ is.lists; room = few_entries s.number ts is.own is.submitted is.differ }) (same_lists ∙ lists) noted
 
-  pub released_more : (t : Task) (x : Entry) → u.me.0.lists ≡ more s.seat.me.0.lists x → IsSubmitted s.number t x → IsFreshLine t.line ts → IsSubmitter q (ts ++ t ∷ []) s'
-  released_more t x lists of fresh = more_submitter q ts t x s s' is number (ready_again (more_room q ts t x s u.me.0 is lists of fresh)) (same_lists ∙ lists) of fresh
+  pub released_more : (t : Task) (x : Entry) → u.me.0.lists ≡ more s.seat.me.0.lists x → IsSubmitted s.number t x → IsFreshLine t.line ts → NotesFit q.table.rule.plan q.id.0 s'.stops s'.told s'.full s'.seat.me.0 → IsSubmitter q (ts ++ t ∷ []) s'
+  released_more t x lists of fresh noted = more_submitter q ts t x s s' is number (ready_again (more_room q ts t x s u.me.0 is lists of fresh)) (same_lists ∙ lists) of fresh noted
+
+-- ## A call's notes
+
+-- notes that are no references leave the one reference
+pub noticed_one : (p : Plan) (id : ℕ) (v w : View) → (adds : List Mark) × (total is_ref adds ≡ 0) × Became (socket_id_slot id) v w adds [] → HoldsOne p id v → HoldsOne p id w
+noticed_one p id v w n h = let b = n.2 in let o = b.others in noted_one p id v w n.0 record { here = λ f. b.here f; elsewhere = λ j ne. b.elsewhere j ne; others = refl } n.1 (ap (λ (y : View). y.claims) o) (ap (λ (y : View). y.loose) o) (ap (λ (y : View). y.share) o) (ap (λ (y : View). y.lists) o) h
+
+-- a reference came, something was noted by it, and it went back
+module _ {O : Type 0} {g : Ghosts O} (q : TaskQueue O g) (ts : List Task) (s : TaskSubmitter O g) (is : IsSubmitter q ts s) (a b : ℕ) (v w x : View) (ea : a ≡ q.id.0) (eb : b ≡ q.id.0) (held : Held q.id.0 s.seat.me.0 v) (ended : Bool) (back : GaveBack (socket_id_slot b) w x (Hold (socket_id_version b)) ended) where
+  pub call_grew : (n : ℕ) → Grew a n v w → Grew q.id.0 n s.seat.me.0 x
+  call_grew n h = through q.id.0 a b n s.seat.me.0 v w x ea eb (held_grew q.id.0 s.seat.me.0 v held) h (back_grew b w x ended back)
+
+  pub call_notes : Grew a 0 v w → NotesFit q.table.rule.plan q.id.0 s.stops s.told s.full x
+  call_notes h = notes_still q.id.0 q.table.rule.plan s.stops s.told s.full s.seat.me.0 x is.noted (call_grew 0 h)
+
+  pub call_stopped : (found : ℕ) → FoundStopped a found v w → FoundStopped q.id.0 found s.seat.me.0 x
+  call_stopped found st = stopped_through q.id.0 a b found s.seat.me.0 v w x ea eb (held_grew q.id.0 s.seat.me.0 v held) st (back_grew b w x ended back)
+
+  -- the queue had been stopped
+  pub call_told : (found : ℕ) → Grew a 0 v w → FoundStopped a found v w → NotesFit q.table.rule.plan q.id.0 s.stops true s.full x
+  call_told found h st = now_told q.id.0 q.table.rule.plan s.stops s.told s.full x (call_notes h) (stopped_later q.id.0 found s.seat.me.0 x (call_stopped found st))
+
+  -- each request was found taken
+  pub call_full_now : FullNow q.table.rule.plan q.table.rule.plan.requests v w → FullNow q.table.rule.plan q.table.rule.plan.requests s.seat.me.0 x
+  call_full_now f = full_through q.table.rule.plan q.table.rule.plan.requests s.seat.me.0 v w x (ap (λ (y : View). y.found) held.others) (ap (λ (y : View). y.found) back.became.others) f
+
+  pub call_full : Grew a 0 v w → FullNow q.table.rule.plan q.table.rule.plan.requests v w → NotesFit q.table.rule.plan q.id.0 s.stops s.told true x
+  call_full h f = now_full q.id.0 q.table.rule.plan s.stops s.told s.full x (call_notes h) (all_taken q.table.rule.plan s.seat.me.0 x (call_full_now f))
+
+  -- the queue was stopped by this call, and by no other of the seat
+  pub call_stops : (n : ℕ) → s.stops ≡ 0 → n ≡ 1 → Grew a 1 v w → NotesFit q.table.rule.plan q.id.0 n s.told s.full x
+  call_stops n none_ one_ h = subst (λ (m : ℕ). NotesFit q.table.rule.plan q.id.0 m s.told s.full x) (omega (arith, none_, one_)) (notes_fit q.id.0 q.table.rule.plan s.stops 1 s.told s.full s.seat.me.0 x is.noted (call_grew 1 h))
+
+  pub call_failed : NoneLater q.id.0 s.seat.me.0 → (code : ℕ) → FailedBy a code v w → failings q.id.0 x ≡ 1
+  call_failed n code f = let h : ℕ = socket_id_version q.id.0 in let i : ℕ = socket_id_slot q.id.0 in
+      let none_ = never_failed q.id.0 q.table.rule.plan s.stops s.told s.full s.seat.me.0 is.noted n in
+      let f' : FailedBy q.id.0 code v w = subst (λ (y : ℕ). FailedBy y code v w) ea f in
+      let k : GaveBack i w x (Hold h) ended = subst (λ (y : ℕ). GaveBack (socket_id_slot y) w x (Hold (socket_id_version y)) ended) eb back in
+      let one_ = held.here (is_failer h) in let two = f'.here (is_failer h) in let three = k.became.here (is_failer h) in let e = (ended_none w.plan ended k.version k.notes k.by).1 h in let o = only-same h in omega arith

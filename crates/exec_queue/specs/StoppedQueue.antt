@@ -1,11 +1,12 @@
 -- What a submitter noted of the queue's socket, whose id this is: whether it was stopped, and by whom, and that its requests were taken.
-use Rattle.std.specs.Prelude.{ℕ, ◌≡◌, ◌<◌, ◌≤◌, ◌⊎◌, Bool, true}
+use Rattle.std.specs.Prelude.{ℕ, ◌≡◌, ◌+◌, ◌<◌, ◌≤◌, ◌⊎◌, Bool, true}
 use Rattle.sock_words.specs.declared.plain.Plan.{Plan}
 use Rattle.sock_words.specs.PackedWords.{socket_id_slot, socket_id_version, vref_version}
 use Rattle.sock_model.specs.declared.view.View.{View}
-use Rattle.sock_model.specs.MarkWeights.{is_failer, is_linked, is_saw}
+use Rattle.sock_model.specs.MarkWeights.{is_failer, is_linked, is_met, is_saw}
 use Rattle.sock_model.specs.SlotRows.{marks_of}
 use Rattle.sock_rule.specs.LinkFaultNotes.{is_fault}
+use Rattle.sock_table.specs.NamesStoredAndFound.{HasSeen}
 use Rattle.sock_table.specs.ReferenceAnswers.{NoneLater}
 use Rattle.write_chain.specs.NotingWhileWriting.{Met_by}
 use Rattle.write_chain.specs.SendingIntoChain.{FoundTaken, FullNow}
@@ -39,6 +40,20 @@ pub record NotesFit (p : Plan) (id stops : ℕ) (told full : Bool) (v : View) : 
   pub later : told ≡ true → SawLater id v
   pub taken : full ≡ true → (q : ℕ) → q < p.requests → FoundTaken p q v.found
   pub made : MadeOne id v
+
+-- what the seat found for good is found still
+abbrev pub FoundMore : View → View → Type 0
+FoundMore v w = (x : ℕ) → HasSeen x v → HasSeen x w
+
+-- from v to w the seat failed the life n times by a call of its own, and oftener only where it noted a fault of its link; it made no life, and what it noted it has still
+pub record Grew (id n : ℕ) (v w : View) : Type 0 where
+  pub saw : (x : ℕ) → marks_of (is_saw x) (socket_id_slot id) v ≤ marks_of (is_saw x) (socket_id_slot id) w
+  pub fault : (k : ℕ) → marks_of (is_fault k) (socket_id_slot id) v ≤ marks_of (is_fault k) (socket_id_slot id) w
+  pub met : (k : ℕ) → marks_of (is_met (socket_id_version id) k) (socket_id_slot id) v ≤ marks_of (is_met (socket_id_version id) k) (socket_id_slot id) w
+  pub linked : (h k : ℕ) → marks_of (is_linked h k) (socket_id_slot id) w ≡ marks_of (is_linked h k) (socket_id_slot id) v
+  pub failed : (failings id w ≡ failings id v + n) ⊎ ((failings id v + n ≤ failings id w) × NotedFault id w × SawLater id w)
+  pub later : (n ≡ 0) ⊎ SawLater id w
+  pub more : FoundMore v w
 
 -- between v and w the seat found this word, which has a later version than the id
 pub record FoundStopped (id found : ℕ) (v w : View) : Type 0 where

@@ -7,7 +7,7 @@ ghost use Rattle.write_chain.specs.WritingRightInHand.{MayBegin, MayGoOn, Begins
 ghost use Rattle.write_chain.specs.ReadyToSend.{HoldsOne, sock_of};
 ghost use Rattle.exec_queue.specs.declared.task.Task as model;
 ghost use Rattle.exec_queue.specs.Tasks.{IsTask, task_bytes};
-ghost use Rattle.exec_queue.specs.StoppedQueue.{RefusedFor, told_by, full_by};
+ghost use Rattle.exec_queue.specs.StoppedQueue.{Grew, RefusedFor, told_by, full_by};
 ghost use Rattle.exec_queue.specs.Submitters.{HasLine, heading_of_task, IsFreshLine, IsQueuePlan, IsSubmitter};
 
 use crate::queue::{TaskQueue, TaskSubmitter};
@@ -79,6 +79,7 @@ fn run_on<O: Out, W: Wait>(
     ensures one { HoldsOne table.now.rule.plan result.id.0 seat.new.me.0 }
     ensures same { result ≡ right.sock }
     ensures lists { seat.new.me.0.lists ≡ seat.old.me.0.lists }
+    ensures notes { Grew right.sock.id.0 0 seat.old.me.0 seat.new.me.0 }
 {
     'goes: for _ in rt.forever() {
         match keep_write(table, rt, seat, right) {
@@ -108,6 +109,7 @@ fn run_right<O: Out, W: Wait>(
     ensures one { HoldsOne table.now.rule.plan result.id.0 seat.new.me.0 }
     ensures same { result ≡ right.sock }
     ensures lists { seat.new.me.0.lists ≡ seat.old.me.0.lists }
+    ensures notes { Grew right.sock.id.0 0 seat.old.me.0 seat.new.me.0 }
 {
     match write_once(table, seat, right) {
         Once::Done(sock) => sock,
@@ -130,6 +132,7 @@ fn follow<O: Out, W: Wait>(
     ensures one { HoldsOne table.now.rule.plan result.0.id.0 seat.new.me.0 }
     ensures same { result.0 ≡ sock_of started }
     ensures lists { seat.new.me.0.lists ≡ seat.old.me.0.lists }
+    ensures notes { Grew (sock_of started).id.0 0 seat.old.me.0 seat.new.me.0 }
 {
     match started {
         Started::Queued(sock) => (sock, Submitted::Queued),

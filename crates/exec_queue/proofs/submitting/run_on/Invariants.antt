@@ -2,6 +2,7 @@ use Rattle.std.proofs.Common.{◌≡◌}
 use Rattle.sock_rule.specs.SocketSeatSplits.{IsSeat}
 use Rattle.write_chain.specs.WritingRightInHand.{MayGoOn}
 use Rattle.write_chain.specs.ReadyToSend.{HoldsOne}
+use Rattle.exec_queue.specs.StoppedQueue.{Grew}
 use Rattle.exec_queue.proofs.submitting.run_on.Given as goal
 
 abbrev pub invariant-goes : goal.invariant-goes
@@ -13,4 +14,5 @@ invariant-goes g l = record {
   holds : HoldsOne l.table.rule.plan l.right.sock.id.0 l.seat.me.0;
   same : l.right.sock ≡ l.fn.right.sock;
   lists : l.seat.me.0.lists ≡ l.fn.seat.me.0.lists;
+  notes : Grew l.fn.right.sock.id.0 0 l.fn.seat.me.0 l.seat.me.0;
 }

@@ -4,6 +4,8 @@ use Rattle.write_chain.specs.WritingRightInHand.{GaveUp}
 use Rattle.write_chain.specs.ReadyToSend.{HoldsOne}
 use Rattle.write_chain.proofs.SeatBetweenMessages.{wrote_one}
 use Rattle.exec_queue.proofs.SubmitterCalls.{wrote_lists}
+use Rattle.exec_queue.specs.StoppedQueue.{Grew}
+use Rattle.exec_queue.proofs.SubmitterNotes.{grew_then, wrote_grew}
 use Rattle.exec_queue.proofs.submitting.run_right.Goals as goal
 
 pub run_on-requires-clause-may : goal.run_on-requires-clause-may
@@ -26,3 +28,9 @@ returns-in-Keep-clause-same g c = c.run_on.ensures.same ∙ c.in-Keep.ensures.on
 
 pub returns-in-Keep-clause-lists : goal.returns-in-Keep-clause-lists
 returns-in-Keep-clause-lists g c = c.run_on.ensures.lists ∙ wrote_lists c.args.right.sock.id.0 c.args.seat.now.me.0 c.write_once.new.seat.me.0 c.write_once.ensures.wrote
+
+pub returns-in-Done-clause-notes : goal.returns-in-Done-clause-notes
+returns-in-Done-clause-notes g c = wrote_grew c.args.right.sock.id.0 c.write_once.new.seat.me.0 c.args.seat.now.me.0 c.write_once.ensures.wrote
+
+pub returns-in-Keep-clause-notes : goal.returns-in-Keep-clause-notes
+returns-in-Keep-clause-notes g c = grew_then c.args.right.sock.id.0 0 0 c.args.seat.now.me.0 c.write_once.new.seat.me.0 c.run_on.new.seat.me.0 (wrote_grew c.args.right.sock.id.0 c.write_once.new.seat.me.0 c.args.seat.now.me.0 c.write_once.ensures.wrote) (subst (λ (y : SockRef). Grew y.id.0 0 c.write_once.new.seat.me.0 c.run_on.new.seat.me.0) c.in-Keep.ensures.once.0 c.run_on.ensures.notes)
