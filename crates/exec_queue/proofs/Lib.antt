@@ -1,3 +1,4 @@
+pub mod PositionsOfLines
 pub mod TasksOfBytes
 pub mod SubmitterNotes
 pub mod SubmitterCalls

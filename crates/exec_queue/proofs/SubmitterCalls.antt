@@ -170,9 +170,9 @@ module _ {S : Type 0} (z : TableId) (p : Plan) (id : ℕ) where
   }
 
 -- what was accepted
-pub started_entry : {O : Type 0} {g : Ghosts O} (p : Plan) (sock : SockRef) (heading : Heading) (bytes : List ℕ) (s : Started O g) (v w : View) → StartedBy p sock heading bytes s v w → (e : Entry) × (e.heading ≡ heading) × (e.bytes ≡ bytes) × (w.lists ≡ more v.lists e)
-started_entry p sock heading bytes (started.Queued r) v w b = (b.1.entry, b.1.heading_is, b.1.bytes_is, b.1.lists)
-started_entry p sock heading bytes (started.Right r) v w b = (b.2.entry, b.2.heading_is, b.2.bytes_is, b.2.lists)
+pub started_entry : {O : Type 0} {g : Ghosts O} (p : Plan) (sock : SockRef) (heading : Heading) (bytes : List ℕ) (s : Started O g) (v w : View) → StartedBy p sock heading bytes s v w → (e : Entry) × (e.heading ≡ heading) × (e.bytes ≡ bytes) × (w.lists ≡ more v.lists e) × (e.link < p.links)
+started_entry p sock heading bytes (started.Queued r) v w b = (b.1.entry, b.1.heading_is, b.1.bytes_is, b.1.lists, b.1.inside)
+started_entry p sock heading bytes (started.Right r) v w b = (b.2.entry, b.2.heading_is, b.2.bytes_is, b.2.lists, b.2.inside)
 
 -- a refusal leaves the lists
 pub refused_lists : (p : Plan) (sock : SockRef) (msg : Letter) (r : Refused) (v w : View) → RefusedBy p sock msg r v w → w.lists ≡ v.lists

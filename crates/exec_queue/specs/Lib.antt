@@ -4,3 +4,4 @@ pub mod StoppedQueue
 pub mod Submitters
 pub mod NewQueue
 pub mod EndedQueue
+pub mod LinesInOrder

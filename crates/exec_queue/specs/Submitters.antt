@@ -1,5 +1,5 @@
 -- What a submitter's seat has of its tasks.
-use Rattle.std.specs.Prelude.{ℕ, ◌≡◌, ◌≢◌, ◌*◌, ◌-◌, ◌≤◌, List, [], ◌∷◌, length}
+use Rattle.std.specs.Prelude.{ℕ, ◌≡◌, ◌≢◌, ◌*◌, ◌-◌, ◌^◌, ◌<◌, ◌≤◌, List, [], ◌∷◌, length}
 use Rattle.std.specs.List.{AllByRecursion}
 use Rattle.atomic_table.specs.Seated.{TableId}
 use Rattle.sock_io.specs.declared.link.Out.{Ghosts}
@@ -35,8 +35,12 @@ pub record HasLine (t : Task) : Type 0 where
 pub record IsSubmitted (number : ℕ) (t : Task) (e : Entry) : Type 0 where
   pub task : IsTask t
   pub line : HasLine t
+  -- as a u64 is
+  pub amount : t.amount < 2 ^ 64
   pub heading : e.heading ≡ heading_of_task number t
   pub bytes : e.bytes ≡ task_bytes t
+  -- the queue has one link
+  pub link : e.link ≡ 0
 
 abbrev pub AreSubmitted : ℕ → List Task → List Entry → Type 0
 AreSubmitted number [] [] = Unit {0}

@@ -1,4 +1,7 @@
 // The order in which tasks were accepted, out of the words of their places.
+ghost use Rattle.std.specs.Prelude.{◌≡◌, ◌*◌, ◌≤◌, ℕ, List, length, take};
+ghost use Rattle.exec_queue.specs.LinesInOrder.{AreWithin, AreLinesOf};
+
 use sock_words::PlaceWord;
 
 /// What the place words tell: how many tasks were accepted, and how many of these were run.
@@ -9,7 +12,16 @@ pub struct Counts {
 }
 
 /// Puts each line at its position. The order has room for each line.
-pub fn put_lines(words: &[PlaceWord], order: &mut [u32]) -> Counts {
+pub fn put_lines(words: &[PlaceWord], order: &mut [u32]) -> Counts
+    requires few { length order.old ≤ 4096 }
+    requires words { 8 * length order.old ≤ length words.now }
+    requires within { AreWithin words.now (length order.old) }
+    ensures lines { (lines : List ℕ) (kept : ℕ) → AreLinesOf words.now (length order.old) lines kept → take result.accepted order.new ≡ lines }
+    ensures ran { (lines : List ℕ) (kept : ℕ) → AreLinesOf words.now (length order.old) lines kept → result.ran ≡ kept }
+    ensures sized { length order.new ≡ length order.old }
+    ensures accepted { result.accepted ≤ length order.old }
+    ensures fewer { result.ran ≤ result.accepted }
+{
     let mut counts = Counts {
         accepted: 0,
         ran: 0,

@@ -1,5 +1,5 @@
 // Tasks are submitted, and run by whoever has the right.
-ghost use Rattle.std.specs.Prelude.{◌≡◌, ◌++◌, ◌∷◌, ◌<◌, ◌≤◌, [], List, OnOk, OnErr, IfErr, IfSome, false};
+ghost use Rattle.std.specs.Prelude.{◌≡◌, ◌++◌, ◌∷◌, ◌<◌, ◌^◌, ◌≤◌, [], List, OnOk, OnErr, IfErr, IfSome, false};
 ghost use Rattle.message_parts.specs.Parcels.{parcel_of};
 ghost use Rattle.sock_rule.specs.SocketSeatSplits.{IsSeat};
 ghost use Rattle.sock_rule.specs.Shows.{heading_of};
@@ -47,6 +47,7 @@ fn letter(alloc: Global, pool: &mut BlockPool, number: u16, task: &Task) -> Opti
     ensures heading { IfSome result (λ m. heading_of m ≡ heading_of_task number task.now) }
     ensures bytes { IfSome result (λ m. (parcel_of m.bytes).bytes ≡ task_bytes task.now) }
     ensures place { IfSome result (λ m. m.label.place < 32768) }
+    ensures amount { IfSome result (λ _. task.now.amount < 2 ^ 64) }
 {
     let Ok(bytes) = Message::new(alloc, pool, &task.bytes()) else {
         return None;

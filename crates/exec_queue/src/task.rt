@@ -1,4 +1,4 @@
-ghost use Rattle.std.specs.Prelude.{◌≡◌, length};
+ghost use Rattle.std.specs.Prelude.{◌≡◌, ◌<◌, ◌^◌, length};
 ghost use Rattle.exec_queue.specs.Tasks.{IsTask, task_bytes, task_of};
 
 /// A task on accounts: kind 1 adds the amount to a, 2 takes it off a, 3 moves it from a to b. It stands on a line, counted from 1.
@@ -17,7 +17,8 @@ pub const TASK_BYTES: usize = 16;
 impl Task {
     /// The sixteen bytes of the task: its kind, a, b, 0, its line and its amount, the high bytes of each first.
     pub fn bytes(&self) -> [u8; 16]
-        ensures { result ≡ task_bytes self.now }
+        ensures bytes { result ≡ task_bytes self.now }
+        ensures amount { self.now.amount < 2 ^ 64 }
     {
         let line = self.line.to_be_bytes();
         let amount = self.amount.to_be_bytes();

@@ -90,7 +90,7 @@ returns-in-Ok-start-clause-ok g c = let q = c.args.self.now in let p = q.table.r
     released_more q g.ts c.args.by.now _ c.follow-submitted.new.seat c.follow-submitted.result.0.id.0 (is_freed r.result) c.requires.1.1.1.0 refl
     (ap (λ (y : SockRef). y.id.0) (f.same ∙ sock_is p c.in-Ok.sock _ _ c.in-Ok-start.started c.add_reference.new.seat.me.0 c.start.new.seat.me.0 by) ∙ i) f.one f.up.slots r.ensures.seat r.ensures.back r.ensures.between r.ensures.slots
     c.args.task.now x.0 (f.lists ∙ (x.3 ∙ ap (λ l. more l x.0) (ap (λ (y : View). y.lists) a.1.others)))
-    record { task = c.requires.1.1.1.1.0; line = c.requires.1.1.1.1.1.0; heading = x.1 ∙ c.in-Some.ensures.heading; bytes = x.2 ∙ c.in-Some.ensures.bytes }
+    record { task = c.requires.1.1.1.1.0; line = c.requires.1.1.1.1.1.0; heading = x.1 ∙ c.in-Some.ensures.heading; bytes = x.2 ∙ c.in-Some.ensures.bytes; link = (let plan = c.requires.1.1.0 in let low = x.4 in omega arith); amount = c.in-Some.ensures.amount }
     c.requires.1.1.1.1.1.1
     (let v = c.add_reference.new.seat.me.0 in let w = c.start.new.seat.me.0 in let u = c.follow-submitted.new.seat.me.0 in let e = ap (λ (y : SockRef). y.id.0) (sock_is p c.in-Ok.sock _ _ c.in-Ok-start.started v w by) in
     call_notes q g.ts c.args.by.now c.requires.1.1.1.0 c.in-Ok.sock.id.0 c.follow-submitted.result.0.id.0 v u r.new.seat.me.0 i (ap (λ (y : SockRef). y.id.0) f.same ∙ (e ∙ i)) a.1 (is_freed r.result) r.ensures.back

@@ -1,0 +1,6 @@
+pub mod MergedLists
+pub mod OwnPlaces
+pub mod NotesOfSeats
+pub mod OrderOfClosedTable
+pub mod PlacesOfClosedTable
+pub mod SenderCalls
