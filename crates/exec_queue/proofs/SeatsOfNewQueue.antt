@@ -33,7 +33,7 @@ use Rattle.sock_rule.specs.declared.homes.SockHome.{SockHome}
 use Rattle.sock_table.specs.LinkPasses.{Created}
 use Rattle.sock_table.specs.declared.passes.LinkPass.{LinkPass}
 use Rattle.sock_table.specs.ReferenceCalls.{IsBetween, SameTokens, Knows}
-use Rattle.sock_table.specs.ClosedSocketTable.{AllDone, ClosedBy}
+use Rattle.sock_table.specs.ClosedSocketTable.{AllDone, ClosedBy, OutBack}
 use Rattle.write_chain.proofs.SeatBetweenMessages.{new_free, kept_free, stored_ready}
 use Rattle.exec_queue.specs.declared.queue.TaskQueue.{TaskQueue}
 use Rattle.exec_queue.specs.declared.queue.TaskSubmitter.{TaskSubmitter}
@@ -134,6 +134,7 @@ module _ {O S : Type 0} {state : O → OutState} (z : TableId) (p : Plan) (seats
   pub nothing_took : (o : O) → AllByRecursion (IsIdle z p) seats → p.links ≡ 1 → outs ≡ o ∷ [] → ForSome (state o).took (λ bytes. bytes ≡ [])
   nothing_took o a links e = subst (λ (y : O). ForSome (state y).took (λ bytes. bytes ≡ [])) (some-injective b.out o (sym b.there ∙ ap (λ (l : List O). get_elem? l 0) e)) (subst (λ (t : List ℕ). ForSome (state b.out).took (λ bytes. bytes ≡ t)) took b.tells)
     where
+      b : OutBack state p closed.view closed.ordered.log closed.words outs 0
       b = closed.outs_back 0 (let l = links in omega arith)
 
       none_ : closed.ordered.log ≡ []
