@@ -38,6 +38,7 @@ use Rattle.write_chain.proofs.SeatBetweenMessages.{new_free, kept_free, stored_r
 use Rattle.exec_queue.specs.declared.queue.TaskQueue.{TaskQueue}
 use Rattle.exec_queue.specs.declared.queue.TaskSubmitter.{TaskSubmitter}
 use Rattle.exec_queue.specs.StoppedQueue.{failings, MadeOne}
+use Rattle.exec_queue.specs.EndedQueue.{AreSubmitters}
 use Rattle.exec_queue.specs.NewQueue.{IsIdle, IsBeginner, IsNew, AreNewFrom}
 
 false_true : false ≡ true → ⊥
@@ -166,3 +167,8 @@ new_submitter q n m seat b e = record {
 pub one_pass : {O : Type 0} {g : Ghosts O} (z : TableId) (p : Plan) (ys xs : List (LinkPass O g)) (x : LinkPass O g) → xs ≡ ys ++ x ∷ [] → PassesFrom z p 0 xs → length xs ≤ 1 → x.link ≡ 0
 one_pass z p [] xs x e a le = (subst (PassesFrom z p 0) e a).1
 one_pass z p (y ∷ ys) xs x e a le = absurd (omega (arith, ap length e, length-append ys (x ∷ []), le))
+
+-- new submitters are those of which no task was accepted
+pub new_submitters : {O : Type 0} {g : Ghosts O} (q : TaskQueue O g) (n : ℕ) (ss : List (TaskSubmitter O g)) → AreNewFrom q n ss → AreSubmitters q (map (λ (s : TaskSubmitter O g). []) ss) ss
+new_submitters q n [] a = tt
+new_submitters q n (s ∷ ss) a = (a.0.is, new_submitters q (n + 1) ss a.1)
