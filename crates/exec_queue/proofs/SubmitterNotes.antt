@@ -115,7 +115,7 @@ module _ (id : ℕ) where
       by_cases (inl x) z = omega arith
       by_cases (inr x) z = (let y = x.0 in omega arith)
 
--- ## A whole call
+  -- ## A whole call
 
   pub notes_still : (p : Plan) (stops : ℕ) (heard full : Bool) (v w : View) → NotesFit p id stops heard full v → Grew id 0 v w → NotesFit p id stops heard full w
   notes_still p stops heard full v w f g = subst (λ (n : ℕ). NotesFit p id n heard full w) (let e : stops + 0 ≡ stops = omega arith in e) (notes_fit p stops 0 heard full v w f g)
