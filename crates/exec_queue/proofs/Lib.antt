@@ -1,3 +1,5 @@
+pub mod BytesOfTasks
+pub mod LinesApart
 pub mod PositionsOfLines
 pub mod TasksOfBytes
 pub mod SubmitterNotes

@@ -4,6 +4,7 @@ use mathlib.Core.Option.{some}
 use lib.ListN.{get_elem?}
 use Rattle.sock_io.specs.declared.link.Out.{Ghosts}
 use Rattle.sock_io.specs.LinkHalves.{OutState}
+use Rattle.chain_orders.specs.ListsInOneOrder.{AreMerged}
 use Rattle.exec_queue.specs.declared.task.Task.{Task}
 use Rattle.exec_queue.specs.declared.queue.TaskQueue.{TaskQueue}
 use Rattle.exec_queue.specs.declared.queue.TaskSubmitter.{TaskSubmitter}
@@ -18,19 +19,6 @@ AreSubmitters q (ts ∷ tss) (s ∷ ss) = IsSubmitter q ts s × AreSubmitters q 
 AreSubmitters q [] (s ∷ ss) = ⊥
 AreSubmitters q (ts ∷ tss) [] = ⊥
 
--- the tasks of one author, out of all
-abbrev pub picked : ℕ → List ℕ → List Task → List Task
-picked a [] ts = []
-picked a (b ∷ bs) [] = []
-picked a (b ∷ bs) (t ∷ ts) = cond (b == a) (t ∷ picked a bs ts) (picked a bs ts)
-
--- the tasks of all submitters in one order, those of each in its own order
-pub record InOneOrder (tss : List (List Task)) (tasks : List Task) : Type 0 where
-  pub by : List ℕ
-  pub long : length by ≡ length tasks
-  pub own : (k : ℕ) (ts : List Task) → get_elem? tss k ≡ some ts → picked k by tasks ≡ ts
-  pub each : (i a : ℕ) → get_elem? by i ≡ some a → a < length tss
-
 -- how many calls of `stop` answered Ok; whether `Stopped` or `Already` was answered to one, and `Full`
 abbrev pub stops_of : {O : Type 0} {g : Ghosts O} → List (TaskSubmitter O g) → ℕ
 stops_of [] = 0
@@ -43,7 +31,8 @@ NoLineTwice tss = LinesDiffer (flat_map (λ ts. ts) tss)
 -- The accepted tasks in the order of their exchanges, of which the first n were run, and all of them where the queue was never stopped. `ran` is what the half that ran them has of them.
 pub record Ran (tss : List (List Task)) (stops : ℕ) (order : List ℕ) (n : ℕ) (ran : List Task) : Type 0 where
   pub tasks : List Task
-  pub ordered : InOneOrder tss tasks
+  -- each submitter's in its own order
+  pub ordered : AreMerged tss tasks
   pub lines : order ≡ map (λ (t : Task). t.line) tasks
   pub few : n ≤ length tasks
   pub ran_is : ran ≡ take n tasks
