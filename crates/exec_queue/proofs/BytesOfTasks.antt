@@ -29,11 +29,18 @@ all_true true true false d e _ _ p _ _ = absurd (cc)
 all_true true true true false e _ _ _ p _ = absurd (cc)
 all_true true true true true false _ _ _ _ p = absurd (cc)
 
+le_true : (m n : ℕ) → m ≤ n → nat_le m n ≡ true
+le_true m n h = grind (arith, nat_tests)
+
 -- of its own bytes the task comes
 pub task_again : (t : Task) → IsWhole t → task_of (task_bytes t) ≡ Some t
 task_again t is =
     let k = is.task in
-    chosen _ _ t (all_true _ _ _ _ _ (grind (arith, nat_tests)) (grind (arith, nat_tests)) (grind (arith, nat_tests)) (grind (arith, nat_tests)) refl)
+    let some_ : nat_le 1 t.kind ≡ true = le_true 1 t.kind k.some_kind in
+    let kind : nat_le t.kind 3 ≡ true = le_true t.kind 3 k.kind in
+    let a : nat_le t.a 15 ≡ true = le_true t.a 15 k.a in
+    let b : nat_le t.b 15 ≡ true = le_true t.b 15 k.b in
+    chosen _ _ t (all_true (nat_le 1 t.kind) (nat_le t.kind 3) (nat_le t.a 15) (nat_le t.b 15) true some_ kind a b refl)
     (ap (λ (n : ℕ). record { kind = t.kind; a = t.a; b = t.b; line = n; amount = from_be_bytes w64 (to_be_bytes w64 t.amount) }) (from_be_bytes-to_be_bytes_4 t.line is.line)
     ∙ ap (λ (n : ℕ). record { kind = t.kind; a = t.a; b = t.b; line = t.line; amount = n }) (from_be_bytes-to_be_bytes_8 t.amount is.amount))
 

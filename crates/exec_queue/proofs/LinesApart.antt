@@ -63,11 +63,11 @@ among_all (xs ∷ xss) (suc c) n ts u at bt = let w = among_all xss c n ts u at 
 
 -- two tasks on one line are one
 pub one_line : (tss : List (List Task)) → NoLineTwice tss → (c d m n : ℕ) (ts us : List Task) (t u : Task) → get_elem? tss c ≡ some ts → get_elem? tss d ≡ some us → get_elem? ts m ≡ some t → get_elem? us n ≡ some u → t.line ≡ u.line → (c ≡ d) × (m ≡ n)
-one_line [] no c d m n ts us t u a b at bt e = absurd (some-ne-none ts (sym a))
-one_line (xs ∷ xss) no zero zero m n ts us t u a b at bt e = (refl, differ_at xs (left_differ xs (all_of xss) no) m n t u (ap (λ (l : List Task). get_elem? l m) (some-injective xs ts a) ∙ at) (ap (λ (l : List Task). get_elem? l n) (some-injective xs us b) ∙ bt) e)
-one_line (xs ∷ xss) no zero (suc d) m n ts us t u a b at bt e = let w = among_all xss d n us u b bt in absurd (across xs (all_of xss) no m w.0 t u (ap (λ (l : List Task). get_elem? l m) (some-injective xs ts a) ∙ at) w.1 e)
-one_line (xs ∷ xss) no (suc c) zero m n ts us t u a b at bt e = let w = among_all xss c m ts t a at in absurd (across xs (all_of xss) no n w.0 u t (ap (λ (l : List Task). get_elem? l n) (some-injective xs us b) ∙ bt) w.1 (sym e))
-one_line (xs ∷ xss) no (suc c) (suc d) m n ts us t u a b at bt e = let r = one_line xss (right_differ xs (all_of xss) no) c d m n ts us t u a b at bt e in (ap suc r.0, r.1)
+one_line [] once c d m n ts us t u a b at bt e = absurd (some-ne-none ts (sym a))
+one_line (xs ∷ xss) once zero zero m n ts us t u a b at bt e = (refl, differ_at xs (left_differ xs (all_of xss) once) m n t u (ap (λ (l : List Task). get_elem? l m) (some-injective xs ts a) ∙ at) (ap (λ (l : List Task). get_elem? l n) (some-injective xs us b) ∙ bt) e)
+one_line (xs ∷ xss) once zero (suc d) m n ts us t u a b at bt e = let w = among_all xss d n us u b bt in absurd (across xs (all_of xss) once m w.0 t u (ap (λ (l : List Task). get_elem? l m) (some-injective xs ts a) ∙ at) w.1 e)
+one_line (xs ∷ xss) once (suc c) zero m n ts us t u a b at bt e = let w = among_all xss c m ts t a at in absurd (across xs (all_of xss) once n w.0 u t (ap (λ (l : List Task). get_elem? l n) (some-injective xs us b) ∙ bt) w.1 (sym e))
+one_line (xs ∷ xss) once (suc c) (suc d) m n ts us t u a b at bt e = let r = one_line xss (right_differ xs (all_of xss) once) c d m n ts us t u a b at bt e in (ap suc r.0, r.1)
 
 -- ## How many there are
 

@@ -1,3 +1,6 @@
+use Rattle.exec_queue.proofs.SentTasks.{indexes_differ}
+use Rattle.exec_queue.proofs.BytesOfTasks.{tasks_again}
+use Rattle.exec_queue.proofs.LinesApart.{few_tasks}
 use Rattle.std.proofs.Common.{◌≡◌, ◌≢◌, ◌*◌, ◌<◌, ℕ, List, length, ◌+◌, max, false, IsTrue, refl, sym, ap, ◌∙◌, subst, arith}
 use Rattle.sock_words.specs.declared.place_word.PlaceWord.{PlaceWord}
 use Rattle.sock_words.specs.PackedWords.{no_place, place_word_position, place_word_dropped}
