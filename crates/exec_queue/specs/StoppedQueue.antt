@@ -10,6 +10,11 @@ use Rattle.sock_table.specs.NamesStoredAndFound.{HasSeen}
 use Rattle.sock_table.specs.ReferenceAnswers.{NoneLater}
 use Rattle.write_chain.specs.NotingWhileWriting.{Met_by}
 use Rattle.write_chain.specs.SendingIntoChain.{FoundTaken, FullNow}
+use Rattle.sock_io.specs.declared.link.Out.{Ghosts}
+use Rattle.write_chain.specs.declared.entry.Started.{Started}
+use Rattle.write_chain.specs.declared.entry.Started.TheVariants as started
+use Rattle.exec_queue.specs.declared.submitting.Submitted.{Submitted}
+use Rattle.exec_queue.specs.declared.submitting.Submitted.TheVariants as submitted
 use Rattle.exec_queue.specs.declared.submitting.NotSubmitted.{NotSubmitted}
 use Rattle.exec_queue.specs.declared.submitting.NotSubmitted.TheVariants as refused
 
@@ -66,12 +71,18 @@ RefusedFor p id (refused.Stopped found) v w = FoundStopped id found.0 v w
 RefusedFor p id refused.Full v w = NoneLater id v × FullNow p p.requests v w
 RefusedFor p id refused.NoMemory v w = w ≡ v
 
--- what the submitter remembers of the answer
+-- a message that was accepted is run by this call, where it has the right
+abbrev pub submitted_by : {O : Type 0} {g : Ghosts O} → Started O g → Submitted
+submitted_by (started.Queued sock) = submitted.Queued
+submitted_by (started.Right right) = submitted.Ran
+
+-- what the submitter remembers of the answer: that the queue was stopped
 abbrev pub told_by : NotSubmitted → Bool → Bool
 told_by (refused.Stopped found) told = true
 told_by refused.Full told = told
 told_by refused.NoMemory told = told
 
+-- and that it was full
 abbrev pub full_by : NotSubmitted → Bool → Bool
 full_by refused.Full full = true
 full_by (refused.Stopped found) full = full

@@ -1,5 +1,11 @@
 // A new queue, with its submitters.
-ghost use Rattle.std.specs.Prelude.{◌≡◌, ◌∷◌, [], length};
+ghost use Rattle.std.specs.Prelude.{◌≡◌, ◌+◌, ◌<◌, ◌≤◌, ◌∷◌, [], Some, length, vec_len, vec_capacity, false, IfOk, IfErr, IfSome};
+ghost use Rattle.std.specs.List.{AllByRecursion};
+ghost use Rattle.std.specs.Option.{ForSome};
+ghost use Rattle.sock_table.specs.ClosedSocketTable.{IsRoomOf};
+ghost use Rattle.sock_open.specs.NewTableContents.{IsNewSeat, AreNewSeats, PassesFrom};
+ghost use Rattle.exec_queue.specs.Submitters.{IsQueuePlan};
+ghost use Rattle.exec_queue.specs.NewQueue.{IsIdle, IsBeginner, AreNewFrom, HasPlaces};
 
 use crate::queue::{TaskQueue, TaskSubmitter};
 use sock_io::Out;
@@ -28,11 +34,14 @@ pub struct NoTasks<O: Out> {
 // What a new queue needs of memory beside its table.
 struct Room<O: Out> {
     outs: Vec<O>,
+    seats: Vec<SockSeat<O>>,
     submitters: Vec<TaskSubmitter<O>>,
     left: Closed<O>,
 }
 
-fn plan_of(submitters: u16) -> Plan {
+fn plan_of(submitters: u16) -> Plan
+    ensures { result ≡ record { slots = 1; links = 1; requests = 4096; names = 1; operations = 4096; seats = submitters; first = 0 } }
+{
     Plan {
         slots: 1,
         links: 1,
@@ -44,12 +53,19 @@ fn plan_of(submitters: u16) -> Plan {
     }
 }
 
-fn room_for<O: Out>(alloc: Global, plan: &Plan) -> Result<Room<O>, AllocError> {
+fn room_for<O: Out>(alloc: Global, plan: &Plan) -> Result<Room<O>, AllocError>
+    ensures outs { IfOk result (λ r. HasPlaces 1 r.outs) }
+    ensures seats { IfOk result (λ r. HasPlaces plan.now.seats r.seats) }
+    ensures submitters { IfOk result (λ r. HasPlaces plan.now.seats r.submitters) }
+    ensures left { IfOk result (λ r. IsRoomOf plan.now r.left) }
+{
     let outs = Vec::with_capacity(alloc, 1)?;
-    let submitters = Vec::with_capacity(alloc, usize::from(plan.seats))?;
+    let seats = Vec::with_capacity(alloc, plan.seats as usize)?;
+    let submitters = Vec::with_capacity(alloc, plan.seats as usize)?;
     let left = rooms(alloc, plan)?;
     Ok(Room {
         outs,
+        seats,
         submitters,
         left,
     })
@@ -66,14 +82,20 @@ pub fn out_back<O: Out>(mut outs: Vec<O>) -> O
     out
 }
 
-/// The first seat makes the one socket, and stores its id under the name.
-fn make_socket<O: Out>(
+/// A seat makes the one socket, and stores its id under the name.
+fn born<O: Out>(
     table: &SockTable<O>,
-    seats: &mut Vec<SockSeat<O>>,
+    seat: &mut SockSeat<O>,
     mut passes: Vec<LinkPass<O>>,
-) -> Option<SocketId> {
+) -> Option<SocketId>
+    requires seat { IsNewSeat table.now.rule.table.shared.table_id table.now.rule.plan seat.old }
+    requires passes { PassesFrom table.now.rule.table.shared.table_id table.now.rule.plan 0 passes.items }
+    requires few { length passes.items ≤ 1 }
+    requires name { 0 < table.now.rule.plan.names }
+    ensures idle { IsIdle table.now.rule.table.shared.table_id table.now.rule.plan seat.new }
+    ensures born { IfSome result (λ i. IsBeginner table.now.rule.table.shared.table_id table.now.rule.plan i.0 seat.new) }
+{
     let pass = passes.pop()?;
-    let seat = seats.get_mut(0)?;
     let Ok(id) = table.create(seat, pass) else {
         return None;
     };
@@ -81,27 +103,106 @@ fn make_socket<O: Out>(
     Some(id)
 }
 
-/// Each seat finds it there.
-fn find_each<O: Out>(table: &SockTable<O>, seats: &mut Vec<SockSeat<O>>, id: SocketId) -> bool {
-    let mut all = true;
-    for k in 0..seats.len() {
-        match table.find(&mut seats[k], 0) {
-            Some(found) => all = all && found == id,
-            None => all = false,
-        }
+/// Whether a seat finds this socket there.
+fn find_one<O: Out>(
+    table: &SockTable<O>,
+    seat: &mut SockSeat<O>,
+    id: Option<SocketId>,
+) -> Option<SocketId>
+    requires seat { IsNewSeat table.now.rule.table.shared.table_id table.now.rule.plan seat.old }
+    requires name { 0 < table.now.rule.plan.names }
+    ensures idle { IsIdle table.now.rule.table.shared.table_id table.now.rule.plan seat.new }
+    ensures found { IfSome result (λ i. (id ≡ Some i) × IsBeginner table.now.rule.table.shared.table_id table.now.rule.plan i.0 seat.new) }
+{
+    let found = table.find(seat, 0);
+    let found = found?;
+    let id = id?;
+    if found.0 == id.0 { Some(id) } else { None }
+}
+
+/// Whether all seats find this socket there.
+fn find_each<O: Out>(
+    table: &SockTable<O>,
+    mut seats: Vec<SockSeat<O>>,
+    ready: &mut Vec<SockSeat<O>>,
+    id: Option<SocketId>,
+) -> Option<SocketId>
+    requires seats { AreNewSeats table.now.rule.table.shared.table_id table.now.rule.plan seats.items }
+    requires name { 0 < table.now.rule.plan.names }
+    requires idle { AllByRecursion (IsIdle table.now.rule.table.shared.table_id table.now.rule.plan) ready.old.items }
+    requires found { IfSome id (λ i. AllByRecursion (IsBeginner table.now.rule.table.shared.table_id table.now.rule.plan i.0) ready.old.items) }
+    requires room { vec_len ready.old + length seats.items ≤ vec_capacity ready.old }
+    ensures idle { AllByRecursion (IsIdle table.now.rule.table.shared.table_id table.now.rule.plan) ready.new.items }
+    ensures found { IfSome result (λ i. AllByRecursion (IsBeginner table.now.rule.table.shared.table_id table.now.rule.plan i.0) ready.new.items) }
+    ensures count { length ready.new.items ≡ length ready.old.items + length seats.items }
+{
+    let mut all = id;
+    while let Some(mut seat) = seats.pop() {
+        all = find_one(table, &mut seat, all);
+        ready.push_reserved(seat);
     }
     all
 }
 
+/// The table ends before a task was submitted.
+fn give_back<O: Out>(table: SockTable<O>, left: Closed<O>, seats: Vec<SockSeat<O>>) -> O
+    requires room { IsRoomOf table.rule.plan left }
+    requires seats { AllByRecursion (IsIdle table.rule.table.shared.table_id table.rule.plan) seats.items }
+    requires count { length seats.items ≡ table.rule.plan.seats }
+    requires some { 1 ≤ table.rule.plan.seats }
+    requires link { table.rule.plan.links ≡ 1 }
+    ensures { ForSome (O.state result).took (λ bytes. bytes ≡ []) }
+{
+    let Closed { outs, .. } = table.close_in(left, seats);
+    out_back(outs)
+}
+
+/// The submitters, in the order of their numbers.
+fn submitters_of<O: Out>(
+    queue: &TaskQueue<O>,
+    mut seats: Vec<SockSeat<O>>,
+    made: &mut Vec<TaskSubmitter<O>>,
+)
+    requires seats { AllByRecursion (IsBeginner queue.now.table.rule.table.shared.table_id queue.now.table.rule.plan queue.now.id.0) seats.items }
+    requires few { length seats.items ≤ 64 }
+    requires room { HasPlaces (length seats.items) made.old }
+    ensures new { AreNewFrom queue.now 1 made.new.items }
+    ensures count { length made.new.items ≡ length seats.items }
+{
+    let mut number = 1u16;
+    while let Some(seat) = seats.pop() {
+        made.push_reserved(TaskSubmitter {
+            seat,
+            number,
+            stops: 0,
+            told: false,
+            full: false,
+        });
+        number += 1;
+    }
+}
+
 impl<O: Out> TaskQueue<O> {
-    /// A queue that runs its tasks over this half, with so many submitters, from 1 to 30.
-    pub fn new(alloc: Global, out: O, submitters: u16) -> Result<TaskParts<O>, NoTasks<O>> {
+    /// A queue that runs its tasks over this half, with so many submitters, from 1 to 30. Where memory is wanting the half comes
+    /// back, which took nothing.
+    pub fn new(alloc: Global, out: O, submitters: u16) -> Result<TaskParts<O>, NoTasks<O>>
+        requires some { 1 ≤ submitters }
+        requires few { submitters ≤ 30 }
+        requires link { (O.state out).link ≡ 0 }
+        requires unfinished { (O.state out).finished ≡ false }
+        requires took { ForSome (O.state out).took (λ bytes. bytes ≡ []) }
+        ensures plan { IfOk result (λ m. IsQueuePlan m.queue.table.rule.plan × (m.queue.table.rule.plan.seats ≡ submitters)) }
+        ensures new { IfOk result (λ m. AreNewFrom m.queue 1 m.submitters.items) }
+        ensures count { IfOk result (λ m. length m.submitters.items ≡ submitters) }
+        ensures back { IfErr result (λ e. ForSome (O.state e.out).took (λ bytes. bytes ≡ [])) }
+    {
         let plan = plan_of(submitters);
         let Ok(room) = room_for(alloc, &plan) else {
             return Err(NoTasks { out });
         };
         let Room {
             mut outs,
+            seats: mut ready,
             submitters: mut made,
             left,
         } = room;
@@ -117,34 +218,19 @@ impl<O: Out> TaskQueue<O> {
                 return Err(NoTasks { out });
             }
         };
-        let id = make_socket(&table, &mut seats, passes);
-        let found = match id {
-            Some(id) => find_each(&table, &mut seats, id),
-            None => false,
+        let Some(mut first) = seats.pop() else {
+            unreachable!();
         };
-        let Some(id) = id else {
-            let Closed { outs, .. } = table.close_in(left, seats);
-            let out = out_back(outs);
+        let id = born(&table, &mut first, passes);
+        ready.push_reserved(first);
+        let Some(id) = find_each(&table, seats, &mut ready, id) else {
+            let out = give_back(table, left, ready);
             return Err(NoTasks { out });
         };
-        if !found {
-            let Closed { outs, .. } = table.close_in(left, seats);
-            let out = out_back(outs);
-            return Err(NoTasks { out });
-        }
-        let mut number = 1u16;
-        for seat in seats {
-            made.push_reserved(TaskSubmitter {
-                seat,
-                number,
-                stops: 0,
-                told: false,
-                full: false,
-            });
-            number = number.saturating_add(1);
-        }
+        let queue = TaskQueue { table, id };
+        submitters_of(&queue, ready, &mut made);
         Ok(TaskParts {
-            queue: TaskQueue { table, id },
+            queue,
             submitters: made,
         })
     }

@@ -7,7 +7,7 @@ ghost use Rattle.write_chain.specs.WritingRightInHand.{MayBegin, MayGoOn, Begins
 ghost use Rattle.write_chain.specs.ReadyToSend.{HoldsOne, sock_of};
 ghost use Rattle.exec_queue.specs.declared.task.Task as model;
 ghost use Rattle.exec_queue.specs.Tasks.{IsTask, task_bytes};
-ghost use Rattle.exec_queue.specs.StoppedQueue.{Grew, RefusedFor, told_by, full_by};
+ghost use Rattle.exec_queue.specs.StoppedQueue.{Grew, RefusedFor, submitted_by, told_by, full_by};
 ghost use Rattle.exec_queue.specs.Submitters.{HasLine, heading_of_task, IsFreshLine, IsQueuePlan, IsSubmitter};
 
 use crate::queue::{TaskQueue, TaskSubmitter};
@@ -134,6 +134,7 @@ fn follow<O: Out, W: Wait>(
     ensures same { result.0 ≡ sock_of started }
     ensures lists { seat.new.me.0.lists ≡ seat.old.me.0.lists }
     ensures notes { Grew (sock_of started).id.0 0 seat.old.me.0 seat.new.me.0 }
+    ensures answer { result.1 ≡ submitted_by started }
 {
     match started {
         Started::Queued(sock) => (sock, Submitted::Queued),
