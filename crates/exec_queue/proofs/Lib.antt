@@ -1,3 +1,4 @@
+pub mod OrderOfTasks
 pub mod SentTasks
 pub mod BytesOfTasks
 pub mod LinesApart

@@ -65,7 +65,7 @@ known_task m s = let e = sym (task_is m s) in record {
 
 -- ## The list of a submitter
 
-sent_task : (number : ℕ) (t : Task) (e : Entry) → IsSubmitted number t e → IsTaskSent (sent_of e)
+abbrev sent_task : (number : ℕ) (t : Task) (e : Entry) → IsSubmitted number t e → IsTaskSent (sent_of e)
 sent_task number t e is = record { number = number; task = t; is_task = is.task; line = is.line; amount = is.amount; link = is.link; heading = is.heading; bytes = is.bytes }
 
 own_sent : (number : ℕ) (ts : List Task) (es : List Entry) → AreSubmitted number ts es → (n : ℕ) (m : Sent) → get_elem? (map sent_of es) n ≡ some m → IsTaskSent m
