@@ -1,3 +1,4 @@
+pub mod NotesOfSubmitters
 pub mod OrderOfTasks
 pub mod SentTasks
 pub mod BytesOfTasks

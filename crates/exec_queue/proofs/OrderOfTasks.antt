@@ -109,11 +109,8 @@ module _ {O : Type 0} {g : Ghosts O} (q : TaskQueue O g) (tss : List (List Task)
 
   -- ## The link
 
-  one_link : LinkPlaced state p (seats_of q ss) places outs 0 order
+  pub one_link : LinkPlaced state p (seats_of q ss) places outs 0 order
   one_link = subst (LinkPlaced state p (seats_of q ss) places outs 0) (all_on order all_tasks) (placed.each 0 (let e = plan.links in omega arith))
-
-  abbrev pub link : LinkPlaced state p (seats_of q ss) places outs 0 order
-  link = one_link
 
   as_long : length tasks ≡ length order
   as_long = length-map order task_in
