@@ -98,3 +98,109 @@ module _ {O : Type 0} {g : Ghosts O} (q : TaskQueue O g) where
   stops_all : (ss : List (TaskSubmitter O g)) → ((c : ℕ) (s : TaskSubmitter O g) → get_elem? ss c ≡ some s → failings q.id.0 s.seat.me.0 ≡ s.stops) → total (amount (is_failer (socket_id_version q.id.0)) (socket_id_slot q.id.0)) (seats_of q ss) ≡ stops_of ss
   stops_all [] each = refl
   stops_all (s ∷ ss) each = let e = each 0 s refl in let again = stops_all ss (λ c x at. each (suc c) x at) in omega arith
+
+-- ## The closed table
+
+module _ {O : Type 0} {g : Ghosts O} (q : TaskQueue O g) (tss : List (List Task)) (ss : List (TaskSubmitter O g)) (are : AreSubmitters q tss ss) (plan : IsQueuePlan q.table.rule.plan)
+    {state : O → OutState} {places : List PlaceWord} {vrefs : List Vref} {outs : List O} (closed : ClosedBy state q.table.rule.plan (seats_of q ss) places vrefs outs) where
+  abbrev p : Plan
+  p = q.table.rule.plan
+
+  abbrev slot : ℕ
+  slot = socket_id_slot q.id.0
+
+  abbrev version : ℕ
+  version = socket_id_version q.id.0
+
+  abbrev seats : List (Seat (SockHome O g) View)
+  seats = seats_of q ss
+
+  -- what the last view has of the slot is what all noted
+  view_has : (f : Mark → ℕ) → marks_of f slot closed.view ≡ total (amount f slot) seats
+  view_has f = ap (λ (ms : List SlotMark). total f (about slot ms)) closed.marks ∙ all_noted f slot seats
+
+  seat_at : (c : ℕ) (s : TaskSubmitter O g) → get_elem? ss c ≡ some s → get_elem? seats c ≡ some s.seat
+  seat_at c s at = map_there (λ (x : TaskSubmitter O g). x.seat) ss c s at
+
+  view_more : (f : Mark → ℕ) (c : ℕ) (s : TaskSubmitter O g) → get_elem? ss c ≡ some s → 0 < marks_of f slot s.seat.me.0 → 0 < marks_of f slot closed.view
+  view_more f c s at some_ = let e = view_has f in let h = one_below f slot seats c s.seat (seat_at c s at) in omega arith
+
+  noted_at : (c : ℕ) (s : TaskSubmitter O g) → get_elem? ss c ≡ some s → NotesFit p q.id.0 s.stops s.told s.full s.seat.me.0
+  noted_at c s at = (one_of q tss ss are c s at).1.noted
+
+  -- a seat is that of a submitter
+  submitter_at : (c : ℕ) (x : Seat (SockHome O g) View) → get_elem? seats c ≡ some x → (s : TaskSubmitter O g) × (get_elem? ss c ≡ some s) × (s.seat ≡ x)
+  submitter_at c x at = map_back (λ (s : TaskSubmitter O g). s.seat) ss c x at
+
+  inside : (c : ℕ) (s : TaskSubmitter O g) → get_elem? ss c ≡ some s → slot < p.slots
+  inside c s at = (one_of q tss ss are c s at).1.ready.known.inside
+
+  -- whoever found a later version: the life was failed once
+  failed_once : (c : ℕ) (s : TaskSubmitter O g) → get_elem? ss c ≡ some s → SawLater q.id.0 s.seat.me.0 → marks_of (is_failer version) slot closed.view ≡ 1
+  failed_once c s at saw = closed.closing.dead_failed slot version saw.0 (inside c s at) (view_more (is_known version) c s at (one_of q tss ss are c s at).1.ready.known.known) (view_more (is_saw saw.0) c s at saw.2) saw.1
+
+  -- a link that was found is link 0
+  met_zero : (c k : ℕ) (s : TaskSubmitter O g) → get_elem? ss c ≡ some s → 0 < marks_of (is_met version k) slot s.seat.me.0 → k ≡ 0
+  met_zero c k s at met =
+      let linked = closed.closing.met_linked slot version k (inside c s at) (view_more (is_met version k) c s at met) in
+      let w = noted_by (is_linked version k) slot seats closed.view closed.marks linked in
+      let m = submitter_at w.1.0 w.0 w.1.1 in
+      ((noted_at w.1.0 m.0 m.1).made version k (subst (λ (x : Seat (SockHome O g) View). 0 < marks_of (is_linked version k) slot x.me.0) (sym m.2) w.2)).1
+
+  module _ (messages : List Sent) (link : LinkPlaced state p seats places outs 0 messages) where
+    -- a fault that was noted the half has
+    pub fault_there : (c : ℕ) (s : TaskSubmitter O g) → get_elem? ss c ≡ some s → NotedFault q.id.0 s.seat.me.0 → 0 < (state link.out).faults
+    fault_there c s at f =
+        let zero_ = met_zero c f.0 s at f.2 in
+        let some_ : 0 < marks_of (is_fault 0) slot s.seat.me.0 = subst (λ (k : ℕ). 0 < marks_of (is_fault k) slot s.seat.me.0) zero_ f.1 in
+        let below = about_below 0 slot s.seat.me.0.marks in
+        link.faulted c s.seat (seat_at c s at) (omega arith)
+
+    module _ (clean : (c : ℕ) (s : TaskSubmitter O g) → get_elem? ss c ≡ some s → NotedFault q.id.0 s.seat.me.0 → ⊥) where
+      stops_each : (c : ℕ) (s : TaskSubmitter O g) → get_elem? ss c ≡ some s → failings q.id.0 s.seat.me.0 ≡ s.stops
+      stops_each c s at = by_notes (noted_at c s at).failed
+        where
+          by_notes : Failed q.id.0 s.stops s.seat.me.0 → failings q.id.0 s.seat.me.0 ≡ s.stops
+          by_notes (inl e) = e
+          by_notes (inr w) = absurd (clean c s at w.1)
+
+      -- the life was failed as often as `stop` answered Ok
+      stops_are : marks_of (is_failer version) slot closed.view ≡ stops_of ss
+      stops_are = view_has (is_failer version) ∙ stops_all q ss stops_each
+
+      pub stopped_once : (c : ℕ) (s : TaskSubmitter O g) → get_elem? ss c ≡ some s → SawLater q.id.0 s.seat.me.0 → stops_of ss ≡ 1
+      stopped_once c s at saw = sym stops_are ∙ failed_once c s at saw
+
+      pub one_stop : stops_of ss ≤ 1
+      one_stop = dite (dec_lt 0 (stops_of ss)) some_stop (λ none_. omega arith)
+        where
+          some_stop : 0 < stops_of ss → stops_of ss ≤ 1
+          some_stop some_ =
+              let e = stops_are in
+              let w = noted_by (is_failer version) slot seats closed.view closed.marks (omega arith) in
+              let m = submitter_at w.1.0 w.0 w.1.1 in
+              let saw = (noted_at w.1.0 m.0 m.1).dead (subst (λ (x : Seat (SockHome O g) View). 0 < marks_of (is_failer version) slot x.me.0) (sym m.2) w.2) in
+              let once = stopped_once w.1.0 m.0 m.1 saw in
+              omega arith
+
+      pub told_stop : (c : ℕ) (s : TaskSubmitter O g) → get_elem? ss c ≡ some s → s.told ≡ true → stops_of ss ≡ 1
+      told_stop c s at told = stopped_once c s at ((noted_at c s at).later told)
+
+      -- its life was failed only where there was a stop
+      pub link_stopped : LinkFailed p seats 0 → stops_of ss ≡ 0 → ⊥
+      link_stopped f none_ =
+          let m = submitter_at f.gives.0 f.giver f.gives.1 in
+          let n = submitter_at f.fails.0 f.failer f.fails.1 in
+          let slots = plan.slots in
+          let low = f.inside in
+          let own = inside f.gives.0 m.0 m.1 in
+          let same : f.slot ≡ slot = omega arith in
+          let given : 0 < marks_of (is_linked f.version 0) slot m.0.seat.me.0 = subst (λ (i : ℕ). 0 < marks_of (is_linked f.version 0) i m.0.seat.me.0) same (subst (λ (x : Seat (SockHome O g) View). 0 < marks_of (is_linked f.version 0) f.slot x.me.0) (sym m.2) f.given) in
+          let life = ((noted_at f.gives.0 m.0 m.1).made f.version 0 given).0 in
+          let failed : 0 < marks_of (is_failer version) slot n.0.seat.me.0 = subst (λ (h : ℕ). 0 < marks_of (is_failer h) slot n.0.seat.me.0) life (subst (λ (i : ℕ). 0 < marks_of (is_failer f.version) i n.0.seat.me.0) same (subst (λ (x : Seat (SockHome O g) View). 0 < marks_of (is_failer f.version) f.slot x.me.0) (sym n.2) f.failed)) in
+          let e = stops_are in
+          let some_ = view_more (is_failer version) f.fails.0 n.0 n.1 failed in
+          omega arith
+
+    pub found_full : (c : ℕ) (s : TaskSubmitter O g) → get_elem? ss c ≡ some s → s.full ≡ true → (r : ℕ) → r < p.requests → (n : ℕ) × (get_elem? (flat_map (λ (x : Seat (SockHome O g) View). x.me.0.found) seats) n ≡ some (request_index p r))
+    found_full c s at full r low = let w = (noted_at c s at).taken full r low in found_among seats c s.seat w.0 (request_index p r) (seat_at c s at) w.1

@@ -1,4 +1,4 @@
-use Rattle.exec_queue.proofs.NotesOfSubmitters.{one_of}
+use Rattle.exec_queue.proofs.NotesOfSubmitters.{found_full}
 use Rattle.exec_queue.proofs.OrderOfTasks.{lines_of}
 use Rattle.exec_queue.proofs.SentTasks.{indexes_differ}
 use Rattle.exec_queue.proofs.BytesOfTasks.{tasks_again}
