@@ -9,13 +9,8 @@ use Rattle.std.proofs.Math.Seq.{take-append_seam, drop-append-add}
 use mathlib.Core.Option.{some, some-injective, some-ne-none}
 use lib.ListN.{get_elem?}
 use Rattle.exec_queue.specs.declared.task.Task.{Task}
+use Rattle.exec_queue.specs.EndedQueue.{IsWhole, AllWhole}
 use Rattle.exec_queue.specs.Tasks.{IsTask, task_bytes, task_of, tasks_upto, tasks_of}
-
--- a task that can be read from its bytes
-pub record IsWhole (t : Task) : Type 0 where
-  pub task : IsTask t
-  pub line : t.line < 2 ^ 32
-  pub amount : t.amount < 2 ^ 64
 
 chosen : (c : Bool) (x y : Task) → c ≡ true → x ≡ y → (if c then Some x else None) ≡ Some y
 chosen true x y e is = ap Some is
@@ -48,9 +43,6 @@ pub sixteen : (t : Task) → length (task_bytes t) ≡ 16
 sixteen t = refl
 
 -- ## Many tasks
-
-abbrev pub AllWhole : List Task → Type 0
-AllWhole ts = (n : ℕ) (t : Task) → get_elem? ts n ≡ some t → IsWhole t
 
 module _ (part : List ℕ) where
   abbrev bytes_of_all : List Task → List ℕ

@@ -1,3 +1,4 @@
+pub mod EndOfQueue
 pub mod NotesOfSubmitters
 pub mod OrderOfTasks
 pub mod SentTasks

@@ -24,8 +24,8 @@ use Rattle.exec_queue.specs.declared.queue.TaskSubmitter.{TaskSubmitter}
 use Rattle.exec_queue.specs.Tasks.{task_bytes}
 use Rattle.exec_queue.specs.Submitters.{HasLine, IsQueuePlan}
 use Rattle.exec_queue.specs.LinesInOrder.{AreLinesOf, line_word}
-use Rattle.exec_queue.specs.EndedQueue.{AreSubmitters, NoLineTwice}
-use Rattle.exec_queue.proofs.BytesOfTasks.{AllWhole, sixteen}
+use Rattle.exec_queue.specs.EndedQueue.{AreSubmitters, NoLineTwice, IsWhole, AllWhole}
+use Rattle.exec_queue.proofs.BytesOfTasks.{sixteen}
 use Rattle.exec_queue.proofs.LinesApart.{AreApart, few_tasks}
 use Rattle.exec_queue.proofs.SentTasks.{Knows, task_in, known_task, seats_of, sent_tasks, each_sent, indexes_differ}
 
@@ -95,7 +95,7 @@ module _ {O : Type 0} {g : Ghosts O} (q : TaskQueue O g) (tss : List (List Task)
   has_line i t at = let w = task_at i t at in subst HasLine w.2 (all_tasks i w.0 w.1).line
 
   pub all_whole : AllWhole tasks
-  all_whole i t at = let w = task_at i t at in subst (λ (x : Task). Rattle.exec_queue.proofs.BytesOfTasks.IsWhole x) w.2 (all_tasks i w.0 w.1).whole
+  all_whole i t at = let w = task_at i t at in subst IsWhole w.2 (all_tasks i w.0 w.1).whole
 
   apart : AreApart tasks
   apart i j t u at bt same =
@@ -162,6 +162,27 @@ module _ {O : Type 0} {g : Ghosts O} (q : TaskQueue O g) (tss : List (List Task)
     counted = λ i line at. (let m = line_at i line at in let low = m.3.line.low in let high = m.3.line.high in let is = m.2 in (omega arith, omega arith));
     each = line_of_word;
   }
+
+  first_whole : (n : ℕ) (ts : List Task) → AllWhole ts → AllWhole (take n ts)
+  first_whole zero ts all i t at = absurd (some-ne-none t (sym at))
+  first_whole (suc n) [] all i t at = absurd (some-ne-none t (sym at))
+  first_whole (suc n) (x ∷ xs) all zero t at = all 0 t at
+  first_whole (suc n) (x ∷ xs) all (suc i) t at = first_whole n xs (λ j u bt. all (suc j) u bt) i t at
+
+  first_few : (n : ℕ) (ts : List Task) → length (take n ts) ≤ length ts
+  first_few zero ts = omega arith
+  first_few (suc n) [] = omega arith
+  first_few (suc n) (x ∷ xs) = let h = first_few n xs in omega arith
+
+  -- those that it took whole
+  pub kept_whole : AllWhole (take one_link.kept tasks)
+  kept_whole = first_whole one_link.kept tasks all_whole
+
+  pub taken_few : length (take one_link.kept tasks) ≤ 4096
+  taken_few = let a = first_few one_link.kept tasks in let b = few in omega arith
+
+  pub same_count : length lines ≡ length order
+  same_count = length-map tasks line_of ∙ as_long
 
   -- what it took
   pub took_tasks : one_link.took ≡ flat_map task_bytes (take one_link.kept tasks) ++ one_link.part

@@ -16,8 +16,8 @@ use Rattle.exec_queue.specs.declared.queue.TaskQueue.{TaskQueue}
 use Rattle.exec_queue.specs.declared.queue.TaskSubmitter.{TaskSubmitter}
 use Rattle.exec_queue.specs.Tasks.{IsTask, task_bytes, task_of}
 use Rattle.exec_queue.specs.Submitters.{IsSubmitted, AreSubmitted, HasLine, heading_of_task}
-use Rattle.exec_queue.specs.EndedQueue.{AreSubmitters, NoLineTwice}
-use Rattle.exec_queue.proofs.BytesOfTasks.{IsWhole, task_again}
+use Rattle.exec_queue.specs.EndedQueue.{AreSubmitters, NoLineTwice, IsWhole}
+use Rattle.exec_queue.proofs.BytesOfTasks.{task_again}
 use Rattle.exec_queue.proofs.LinesApart.{one_line}
 
 -- ## A message

@@ -1,15 +1,14 @@
 -- What a queue leaves.
-use Rattle.std.specs.Prelude.{ℕ, ◌≡◌, ◌+◌, ◌<◌, ◌≤◌, ◌⊎◌, ◌==◌, cond, true, false, List, [], ◌∷◌, ◌++◌, length, map, take, flat_map, Some}
+use Rattle.std.specs.Prelude.{ℕ, ◌≡◌, ◌+◌, ◌^◌, ◌<◌, ◌≤◌, true, List, [], ◌∷◌, ◌++◌, length, map, take, flat_map, Some}
 use mathlib.Core.Option.{some}
 use lib.ListN.{get_elem?}
 use Rattle.sock_io.specs.declared.link.Out.{Ghosts}
-use Rattle.sock_io.specs.LinkHalves.{OutState}
 use Rattle.chain_orders.specs.ListsInOneOrder.{AreMerged}
 use Rattle.exec_queue.specs.declared.task.Task.{Task}
 use Rattle.exec_queue.specs.declared.queue.TaskQueue.{TaskQueue}
 use Rattle.exec_queue.specs.declared.queue.TaskSubmitter.{TaskSubmitter}
 use Rattle.exec_queue.specs.declared.finishing.TaskEnd.{TaskEnd}
-use Rattle.exec_queue.specs.Tasks.{task_bytes}
+use Rattle.exec_queue.specs.Tasks.{IsTask, task_bytes}
 use Rattle.exec_queue.specs.Submitters.{IsSubmitter, LinesDiffer}
 
 -- of each submitter these tasks were accepted, in its own order
@@ -44,6 +43,15 @@ pub record AnswersFit {O : Type 0} {g : Ghosts O} (ss : List (TaskSubmitter O g)
   pub told : (k : ℕ) (s : TaskSubmitter O g) → get_elem? ss k ≡ some s → s.told ≡ true → stops_of ss ≡ 1
   pub full : (k : ℕ) (s : TaskSubmitter O g) → get_elem? ss k ≡ some s → s.full ≡ true → length order ≡ 4096
 
+-- each can be read from its bytes
+pub record IsWhole (t : Task) : Type 0 where
+  pub task : IsTask t
+  pub line : t.line < 2 ^ 32
+  pub amount : t.amount < 2 ^ 64
+
+abbrev pub AllWhole : List Task → Type 0
+AllWhole ts = (n : ℕ) (t : Task) → get_elem? ts n ≡ some t → IsWhole t
+
 -- over any half: the bytes that it took are those of the tasks that were run, and the beginning of one more at most; where its count of faults stands at 0
 pub record TasksEnded {O : Type 0} {g : Ghosts O} (tss : List (List Task)) (ss : List (TaskSubmitter O g)) (e : TaskEnd O) : Type 0 where
   pub took : List ℕ
@@ -51,6 +59,8 @@ pub record TasksEnded {O : Type 0} {g : Ghosts O} (tss : List (List Task)) (ss :
   pub tasks : List Task
   pub part : List ℕ
   pub took_is : took ≡ flat_map task_bytes tasks ++ part
+  pub few : length tasks ≤ 4096
+  pub whole : AllWhole tasks
   pub part_few : length part < 16
   pub ran : (g.state e.out).faults ≡ 0 → Ran tss (stops_of ss) e.order.items e.ran tasks
   pub answers : (g.state e.out).faults ≡ 0 → AnswersFit ss e.order.items
