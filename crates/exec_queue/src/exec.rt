@@ -2,6 +2,7 @@
 ghost use Rattle.std.specs.Prelude.{◌≡◌, ◌≤◌, List, [], IfOk, IfErr, length};
 ghost use Rattle.exec_queue.specs.declared.task.Task as model;
 ghost use Rattle.exec_queue.specs.Submitters.{IsQueuePlan};
+ghost use Rattle.exec_queue.specs.NewQueue.{AreNewFrom};
 ghost use Rattle.exec_queue.specs.EndedQueue.{AreSubmitters, NoLineTwice, Ran, AnswersFit, stops_of};
 
 use crate::finishing::{TaskEnd, TasksLeft};
@@ -34,12 +35,21 @@ pub struct ExecEnd<R: Runner> {
     pub ran: u32,
 }
 
-/// A queue that runs its tasks by this runner, with so many submitters, from 1 to 30.
+/// A queue that runs its tasks by this runner, with so many submitters, from 1 to 30. Where memory is wanting the runner comes
+/// back, which ran nothing.
 pub fn exec_queue<R: Runner>(
     alloc: Global,
     runner: R,
     submitters: u16,
-) -> Result<ExecParts<R>, NoQueue<R>> {
+) -> Result<ExecParts<R>, NoQueue<R>>
+    requires some { 1 ≤ submitters }
+    requires few { submitters ≤ 30 }
+    requires ran { R.ran runner ≡ [] }
+    ensures plan { IfOk result (λ m. IsQueuePlan m.queue.table.rule.plan × (m.queue.table.rule.plan.seats ≡ submitters)) }
+    ensures new { IfOk result (λ m. AreNewFrom m.queue 1 m.submitters.items) }
+    ensures count { IfOk result (λ m. length m.submitters.items ≡ submitters) }
+    ensures back { IfErr result (λ e. R.ran e.runner ≡ []) }
+{
     let Ok(room) = Vec::with_capacity(alloc, ROOM) else {
         return Err(NoQueue { runner });
     };
