@@ -69,11 +69,10 @@ impl<O: Out> TaskQueue<O> {
         alloc: Global,
         submitters: Vec<TaskSubmitter<O>>,
     ) -> Result<TaskEnd<O>, TasksLeft<O>>
-        ghost tss: { List (List model.Task) }
         requires plan { IsQueuePlan self.table.rule.plan }
-        requires all { AreSubmitters self tss submitters.items }
+        requires all { (tss : List (List model.Task)) × AreSubmitters self tss submitters.items }
         requires count { length submitters.items ≡ self.table.rule.plan.seats }
-        ensures ended { IfOk result (λ e. NoLineTwice tss → TasksEnded tss submitters.items e) }
+        ensures ended { IfOk result (λ e. (tss : List (List model.Task)) → AreSubmitters self tss submitters.items → NoLineTwice tss → TasksEnded tss submitters.items e) }
         ensures untouched { IfErr result (λ e. (e.queue ≡ self) × (e.submitters ≡ submitters)) }
     {
         let Ok(room) = room_for(alloc, &self, submitters.len()) else {

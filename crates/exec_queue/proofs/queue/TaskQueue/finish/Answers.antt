@@ -16,21 +16,20 @@ rewritten : (m len : ℕ) (xs old : List ℕ) → length xs ≡ len → take m (
 rewritten m len xs old e = ap (take m) (ap (λ (n : ℕ). take n (xs ++ drop (length xs) old)) (sym e) ∙ take-append_seam xs (drop (length xs) old))
 
 pub close_in-places-requires-clause-seats : goal.close_in-places-requires-clause-seats
-close_in-places-requires-clause-seats g c = let q = c.args.self in subst (AllDone q.table.rule.table.shared.table_id q.table.rule.plan) (sym c.seats_of.ensures) (all_done q g.tss c.args.submitters.items c.requires.1.1.0)
+close_in-places-requires-clause-seats g c = let q = c.args.self in subst (AllDone q.table.rule.table.shared.table_id q.table.rule.plan) (sym c.seats_of.ensures) (all_done q c.requires.all.0 c.args.submitters.items c.requires.all.1)
 
 pub close_in-places-requires-clause-all : goal.close_in-places-requires-clause-all
-close_in-places-requires-clause-all g c = ap (total (λ s. s.me.0.share)) c.seats_of.ensures ∙ (all_shares c.args.self g.tss c.args.submitters.items c.requires.1.1.0 ∙ c.requires.1.1.1)
+close_in-places-requires-clause-all g c = ap (total (λ s. s.me.0.share)) c.seats_of.ensures ∙ (all_shares c.args.self c.requires.all.0 c.args.submitters.items c.requires.all.1 ∙ c.requires.count)
 
 pub returns-clause-ended : goal.returns-clause-ended
-returns-clause-ended g c = λ once.
+returns-clause-ended g c = λ tss are once.
     let q = c.args.self in
     let ss = c.args.submitters.items in
-    let are = c.requires.1.1.0 in
-    let plan = c.requires.1.0 in
+    let plan = c.requires.plan in
     let closed = subst (λ x. ClosedBy g.O.Out.state q.table.rule.plan x c.close_in-places.result.places.items c.close_in-places.result.vrefs.items c.close_in-places.result.outs.items) c.seats_of.ensures c.close_in-places.ensures.closed in
     let count : length c.deref_mut.result.now ≡ 4096 = ap length c.deref_mut.ensures.value ∙ c.in-Ok.ensures.order in
-    let own = again c.close_in-places.result.places.items c.deref.result.now 4096 (length c.deref_mut.result.now) _ _ (sym c.deref.ensures.value) (sym count) (own_places q g.tss ss are plan once closed) in
+    let own = again c.close_in-places.result.places.items c.deref.result.now 4096 (length c.deref_mut.result.now) _ _ (sym c.deref.ensures.value) (sym count) (own_places q tss ss are plan once closed) in
     let put = c.put_lines-accepted.ensures in
-    ended q g.tss ss are plan once closed _
+    ended q tss ss are plan once closed _
     (c.truncate.ensures.items ∙ (rewritten c.put_lines-accepted.result.accepted c.in-Ok.room.order.len c.put_lines-accepted.new.order c.in-Ok.room.order.items (put.sized ∙ c.deref_mut.ensures.len) ∙ put.lines _ _ own))
     (put.ran _ _ own) c.out_back-out.ensures
