@@ -1,5 +1,5 @@
 -- What a closed table tells of a queue.
-use Rattle.std.proofs.Common.{◌≡◌, ◌≢◌, ◌⊎◌, ℕ, zero, suc, ◌+◌, ◌<◌, ◌≤◌, Bool, true, Option, None, Some, List, [], ◌∷◌, ◌++◌, length, take, map, refl, sym, ap, ◌∙◌, subst, arith}
+use Rattle.std.proofs.Common.{◌≡◌, ◌⊎◌, inl, inr, ℕ, zero, suc, ◌+◌, ◌<◌, ◌≤◌, Bool, true, Option, None, Some, List, [], ◌∷◌, ◌++◌, length, take, map, refl, sym, ap, ◌∙◌, subst, arith}
 use Rattle.std.proofs.lemmas.List.{length-map}
 use mathlib.Core.Logic.{dite}
 use native.Mathlib.Decide.{dec_lt}
@@ -46,6 +46,11 @@ module _ {O : Type 0} {g : Ghosts O} (q : TaskQueue O g) where
 
 -- ## Behind it
 
+take_few : {A : Type 0} (n : ℕ) (xs : List A) → length (take n xs) ≤ n
+take_few zero xs = omega arith
+take_few (suc n) [] = omega arith
+take_few (suc n) (x ∷ xs) = let h = take_few n xs in omega arith
+
 module _ {O : Type 0} {g : Ghosts O} (q : TaskQueue O g) (tss : List (List Task)) (ss : List (TaskSubmitter O g)) (are : AreSubmitters q tss ss) (plan : IsQueuePlan q.table.rule.plan) (once : NoLineTwice tss)
     {places : List PlaceWord} {vrefs : List Vref} {outs : List O} (closed : ClosedBy g.state q.table.rule.plan (seats_of q ss) places vrefs outs) where
   abbrev placed : PlacedInOrder g.state q.table.rule.plan (seats_of q ss) places outs
@@ -70,26 +75,44 @@ module _ {O : Type 0} {g : Ghosts O} (q : TaskQueue O g) (tss : List (List Task)
     clean : (g.state e.out).faults ≡ 0 → Clean
     clean none_ c s at f = let some_ = fault_there q tss ss are plan closed placed.order link c s at f in let same = ap (λ (o : O). (g.state o).faults) same_out in absurd (omega arith)
 
-    pub ran_all : Clean → Ran tss (stops_of ss) e.order.items e.ran (take link.kept own_tasks)
-    ran_all ok = record {
+    ran_if : (stops_of ss ≡ 0 → e.ran ≡ length own_tasks) → Ran tss (stops_of ss) e.order.items e.ran (take link.kept own_tasks)
+    ran_if whole = record {
       tasks = own_tasks;
       ordered = merged_tasks q tss ss are once q.table.rule.plan plan places outs placed;
       lines = order_is;
       few = (let a = kept_few q tss ss are once q.table.rule.plan plan places outs placed in let b = ran_is in omega arith);
       ran_is = ap (λ (n : ℕ). take n own_tasks) (sym ran_is);
-      whole = λ none_. dite (dec_lt link.kept (length placed.order))
-          (λ left. absurd (link_stopped q tss ss are plan closed placed.order link ok (link.left left) none_))
-          (λ all. (let a = kept_few q tss ss are once q.table.rule.plan plan places outs placed in let b = ran_is in let c = same_count q tss ss are once q.table.rule.plan plan places outs placed in let d = length-map own_tasks (λ (t : Task). t.line) in omega arith));
+      whole = whole;
     }
 
-    pub answers_all : Clean → AnswersFit ss e.order.items
+    as_many : length own_tasks ≡ length placed.order
+    as_many = let a = same_count q tss ss are once q.table.rule.plan plan places outs placed in let b = length-map own_tasks (λ (t : Task). t.line) in omega arith
+
+    whole_clean : Clean → stops_of ss ≡ 0 → e.ran ≡ length own_tasks
+    whole_clean ok none_ = dite (dec_lt link.kept (length placed.order))
+        (λ left. absurd (link_stopped q tss ss are plan closed placed.order link ok (link.left left) none_))
+        (λ all. (let a = kept_few q tss ss are once q.table.rule.plan plan places outs placed in let b = ran_is in let c = as_many in omega arith))
+
+    whole_full : length (take link.kept own_tasks) ≡ 4096 → e.ran ≡ length own_tasks
+    whole_full full =
+        let a = kept_few q tss ss are once q.table.rule.plan plan places outs placed in
+        let b = few q tss ss are once q.table.rule.plan plan places outs placed in
+        let c = take_few link.kept own_tasks in
+        let d = ran_is in
+        omega arith
+
+    ran_all : ((g.state e.out).faults ≡ 0) ⊎ (length (take link.kept own_tasks) ≡ 4096) → Ran tss (stops_of ss) e.order.items e.ran (take link.kept own_tasks)
+    ran_all (inl none_) = ran_if (whole_clean (clean none_))
+    ran_all (inr full) = ran_if (λ _. whole_full full)
+
+    answers_all : Clean → AnswersFit ss e.order.items
     answers_all ok = record {
       one_stop = one_stop q tss ss are plan closed placed.order link ok;
       told = λ k s at told. told_stop q tss ss are plan closed placed.order link ok k s at told;
       full = λ k s at full. (let a = placed.full (found_full q tss ss are plan closed placed.order link k s at full) in
           let b = few q tss ss are once q.table.rule.plan plan places outs placed in
           let c = same_count q tss ss are once q.table.rule.plan plan places outs placed in
-          let d = length-map own_tasks (λ (t : Task). t.line) in
+          let d = as_many in
           let r = plan.requests in
           ap length order_is ∙ (let n : length own_lines ≡ 4096 = omega arith in n));
     }
@@ -105,7 +128,7 @@ module _ {O : Type 0} {g : Ghosts O} (q : TaskQueue O g) (tss : List (List Task)
       few = taken_few q tss ss are once q.table.rule.plan plan places outs placed;
       whole = kept_whole q tss ss are once q.table.rule.plan plan places outs placed;
       part_few = part_few q tss ss are once q.table.rule.plan plan places outs placed;
-      ran = λ none_. ran_all (clean none_);
+      ran = ran_all;
       answers = λ none_. answers_all (clean none_);
     }
 

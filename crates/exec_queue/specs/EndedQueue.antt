@@ -1,5 +1,5 @@
 -- What a queue leaves.
-use Rattle.std.specs.Prelude.{ℕ, ◌≡◌, ◌+◌, ◌^◌, ◌<◌, ◌≤◌, true, List, [], ◌∷◌, ◌++◌, length, map, take, flat_map, Some}
+use Rattle.std.specs.Prelude.{ℕ, ◌≡◌, ◌+◌, ◌^◌, ◌<◌, ◌≤◌, ◌⊎◌, true, List, [], ◌∷◌, ◌++◌, length, map, take, flat_map, Some}
 use mathlib.Core.Option.{some}
 use lib.ListN.{get_elem?}
 use Rattle.sock_io.specs.declared.link.Out.{Ghosts}
@@ -52,7 +52,7 @@ pub record IsWhole (t : Task) : Type 0 where
 abbrev pub AllWhole : List Task → Type 0
 AllWhole ts = (n : ℕ) (t : Task) → get_elem? ts n ≡ some t → IsWhole t
 
--- over any half: the bytes that it took are those of the tasks that were run, and the beginning of one more at most; where its count of faults stands at 0
+-- over any half: the bytes that it took are those of the tasks that were run, and the beginning of one more at most. Where its count of faults stands at 0, or as many were run as a queue has lines, it ran all of them unless the queue was stopped; and at 0 the answers fit
 pub record TasksEnded {O : Type 0} {g : Ghosts O} (tss : List (List Task)) (ss : List (TaskSubmitter O g)) (e : TaskEnd O) : Type 0 where
   pub took : List ℕ
   pub tells : (bytes : List ℕ) → (g.state e.out).took ≡ Some bytes → bytes ≡ took
@@ -62,5 +62,5 @@ pub record TasksEnded {O : Type 0} {g : Ghosts O} (tss : List (List Task)) (ss :
   pub few : length tasks ≤ 4096
   pub whole : AllWhole tasks
   pub part_few : length part < 16
-  pub ran : (g.state e.out).faults ≡ 0 → Ran tss (stops_of ss) e.order.items e.ran tasks
+  pub ran : ((g.state e.out).faults ≡ 0) ⊎ (length tasks ≡ 4096) → Ran tss (stops_of ss) e.order.items e.ran tasks
   pub answers : (g.state e.out).faults ≡ 0 → AnswersFit ss e.order.items
