@@ -18,3 +18,13 @@ returns-in-Ok-clause-ran g c = λ tss are once.
     (e.ran (dite (dec_lt 0 o.faults)
         (λ some_. inr (let full = c.runner.ensures.full some_ in let few = e.few in let part = e.part_few in omega arith))
         (λ none_. inl (omega arith))))
+
+pub returns-in-Ok-clause-answers : goal.returns-in-Ok-clause-answers
+returns-in-Ok-clause-answers g c = λ tss are once.
+    let e = c.in-Ok.ensures.ended tss are once in
+    let o = c.in-Ok.field-0.out in
+    let taken_is = e.tells o.taken refl ∙ e.took_is in
+    let long : length o.taken ≡ 16 * length e.tasks + length e.part = ap length taken_is ∙ bytes_long e.part e.tasks in
+    e.answers (dite (dec_lt 0 o.faults)
+        (λ some_. absurd (let full = c.runner.ensures.full some_ in let few = e.few in let part = e.part_few in omega arith))
+        (λ none_. omega arith))
