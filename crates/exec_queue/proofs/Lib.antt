@@ -1,3 +1,9 @@
+pub mod EndOfQueue
+pub mod NotesOfSubmitters
+pub mod OrderOfTasks
+pub mod SentTasks
+pub mod BytesOfTasks
+pub mod LinesApart
 pub mod PositionsOfLines
 pub mod TasksOfBytes
 pub mod SubmitterNotes

@@ -9,7 +9,7 @@ use lib.ListN.{get_elem?}
 use Rattle.brpc_model.specs.PlaceWords.{word_at}
 use Rattle.sock_words.specs.declared.place_word.PlaceWord.{PlaceWord}
 use Rattle.sock_words.specs.PackedWords.{IsPlaceWord, place_word, place_word_position, place_word_dropped, no_place}
-use Rattle.exec_queue.specs.LinesInOrder.{line_word, AreWithin, AreLinesOf}
+use Rattle.exec_queue.specs.LinesInOrder.{line_word, AreLinesOf}
 
 -- of these lines those up to line n stand at their positions, which are below `accepted`, and of those that weren't dropped below `ran`; and these are no more than they must be
 pub record IsPut (words : List PlaceWord) (lines : List ℕ) (kept : ℕ) (order : List ℕ) (n accepted ran : ℕ) : Type 0 where
@@ -92,6 +92,10 @@ module _ (words : List PlaceWord) (old lines : List ℕ) (kept : ℕ) (are : Are
 
       p_low : p < length lines
       p_low = let h = below lines i0.0 (suc n) i0.1 in let e = p_own in omega arith
+
+      -- and so it is one of the order's
+      pub step_inside : p < length old
+      step_inside = let h = p_low in let long = are.long in omega arith
 
       -- where it stands, and where the others do
       placed_one : (i line a r : ℕ) → get_elem? lines i ≡ some line → line ≤ n + 1 → accepted ≤ a → p < a → ran ≤ r → (place_word_dropped (line_word words n) ≡ false → p < r) → (i < a) × (get_or (set order p (n + 1)) i 0 ≡ line) × (i < kept → i < r)

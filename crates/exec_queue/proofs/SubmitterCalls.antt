@@ -66,15 +66,15 @@ differ_then (x ∷ ts) t d f = (fresh_then x.line ts t d.0 (λ e. f.0 (sym e)), 
 -- ## How many there may be
 
 -- those that stand on line n, and those that stand on none behind it
-abbrev one : Bool → ℕ
+abbrev pub one : Bool → ℕ
 one true = 1
 one false = 0
 
-abbrev at_line : ℕ → List Task → ℕ
+abbrev pub at_line : ℕ → List Task → ℕ
 at_line n [] = 0
 at_line n (t ∷ ts) = one (eqb t.line n) + at_line n ts
 
-abbrev up_to : ℕ → List Task → ℕ
+abbrev pub up_to : ℕ → List Task → ℕ
 up_to zero ts = 0
 up_to (suc n) ts = up_to n ts + at_line (suc n) ts
 
@@ -94,7 +94,7 @@ one_there n (t ∷ ts) d = by_cases (eqb_tells t.line n) (one_there n ts d.1)
     by_cases (inl y) rest = omega (arith, ap one y.0, none_there n ts (subst (λ (m : ℕ). IsFreshLine m ts) y.1 d.0))
     by_cases (inr x) rest = omega (arith, ap one x.0, rest)
 
-few_up_to : (n : ℕ) (ts : List Task) → LinesDiffer ts → up_to n ts ≤ n
+pub few_up_to : (n : ℕ) (ts : List Task) → LinesDiffer ts → up_to n ts ≤ n
 few_up_to zero ts d = omega arith
 few_up_to (suc n) ts d = (let a = few_up_to n ts d in let b = one_there (suc n) ts d in omega arith)
 
@@ -103,7 +103,7 @@ more_up_to zero x xs = omega arith
 more_up_to (suc m) x xs = (let a = more_up_to m x xs in omega arith)
 
 -- a task is counted on its line
-counted : (n : ℕ) (t : Task) (ts : List Task) → 1 ≤ t.line → t.line ≤ n → up_to n ts + 1 ≤ up_to n (t ∷ ts)
+pub counted : (n : ℕ) (t : Task) (ts : List Task) → 1 ≤ t.line → t.line ≤ n → up_to n ts + 1 ≤ up_to n (t ∷ ts)
 counted zero t ts low high = absurd (omega (arith, low, high))
 counted (suc n) t ts low high = by_cases (eqb_tells t.line (suc n)) (λ le. counted n t ts low le)
   where

@@ -4,15 +4,11 @@ use mathlib.Core.Option.{some}
 use lib.ListN.{get_elem?}
 use Rattle.brpc_model.specs.PlaceWords.{word_at}
 use Rattle.sock_words.specs.declared.place_word.PlaceWord.{PlaceWord}
-use Rattle.sock_words.specs.PackedWords.{no_place, place_word, place_word_position}
+use Rattle.sock_words.specs.PackedWords.{no_place, place_word}
 
 -- the place word of a line, counted from 0: the first of the eight of its operation
 abbrev pub line_word : List PlaceWord → ℕ → ℕ
 line_word words line = word_at words (8 * line)
-
--- each word of so many lines tells a position among them, or none
-abbrev pub AreWithin : List PlaceWord → ℕ → Type 0
-AreWithin words count = (l : ℕ) → l < count → line_word words l ≢ no_place → place_word_position (line_word words l) < count
 
 -- these lines, counted from 1, stand at their positions, with the dropped bit behind the first `kept`; and no other line has a position
 pub record AreLinesOf (words : List PlaceWord) (count : ℕ) (lines : List ℕ) (kept : ℕ) : Type 0 where

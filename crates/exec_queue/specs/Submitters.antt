@@ -14,13 +14,14 @@ use Rattle.exec_queue.specs.declared.queue.TaskQueue.{TaskQueue}
 use Rattle.exec_queue.specs.Tasks.{IsTask, task_bytes}
 use Rattle.exec_queue.specs.StoppedQueue.{NotesFit}
 
--- one slot, one link, one name; as many requests and lines as a queue has
+-- one slot, one link, one name; as many requests and lines as a queue has; and some submitter
 pub record IsQueuePlan (p : Plan) : Type 0 where
   pub slots : p.slots ≡ 1
   pub links : p.links ≡ 1
   pub requests : p.requests ≡ 4096
   pub names : p.names ≡ 1
   pub operations : p.operations ≡ 4096
+  pub seats : 1 ≤ p.seats
 
 -- what stands with the task of a submitter
 abbrev pub heading_of_task : ℕ → Task → Heading

@@ -67,12 +67,11 @@ pub fn finish<R: Runner>(
     alloc: Global,
     submitters: Vec<Submitter<R>>,
 ) -> Result<ExecEnd<R>, NotEnded<R>>
-    ghost tss: { List (List model.Task) }
     requires plan { IsQueuePlan queue.table.rule.plan }
-    requires all { AreSubmitters queue tss submitters.items }
+    requires all { (tss : List (List model.Task)) × AreSubmitters queue tss submitters.items }
     requires count { length submitters.items ≡ queue.table.rule.plan.seats }
-    ensures ran { IfOk result (λ e. NoLineTwice tss → Ran tss (stops_of submitters.items) e.order.items e.ran (R.ran e.runner)) }
-    ensures answers { IfOk result (λ e. NoLineTwice tss → AnswersFit submitters.items e.order.items) }
+    ensures ran { IfOk result (λ e. (tss : List (List model.Task)) → AreSubmitters queue tss submitters.items → NoLineTwice tss → Ran tss (stops_of submitters.items) e.order.items e.ran (R.ran e.runner)) }
+    ensures answers { IfOk result (λ e. (tss : List (List model.Task)) → AreSubmitters queue tss submitters.items → NoLineTwice tss → AnswersFit submitters.items e.order.items) }
     ensures untouched { IfErr result (λ e. (e.queue ≡ queue) × (e.submitters ≡ submitters)) }
 {
     match queue.finish(alloc, submitters) {

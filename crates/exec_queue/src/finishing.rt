@@ -1,5 +1,6 @@
 // A queue that ends.
-ghost use Rattle.std.specs.Prelude.{◌≡◌, List, IfOk, IfErr, length};
+ghost use Rattle.std.specs.Prelude.{◌≡◌, ◌≤◌, [], List, IfOk, IfErr, length, map, vec_len, vec_capacity};
+ghost use Rattle.sock_table.specs.ClosedSocketTable.{IsRoomOf};
 ghost use Rattle.exec_queue.specs.declared.task.Task as model;
 ghost use Rattle.exec_queue.specs.Submitters.{IsQueuePlan};
 ghost use Rattle.exec_queue.specs.EndedQueue.{AreSubmitters, NoLineTwice, TasksEnded};
@@ -38,14 +39,23 @@ fn room_for<O: Out>(
     alloc: Global,
     queue: &TaskQueue<O>,
     submitters: usize,
-) -> Result<Room<O>, AllocError> {
+) -> Result<Room<O>, AllocError>
+    ensures order { IfOk result (λ r. length r.order.items ≡ 4096) }
+    ensures seats { IfOk result (λ r. (r.seats.items ≡ []) × (vec_len r.seats ≡ 0) × (submitters ≤ vec_capacity r.seats)) }
+    ensures left { IfOk result (λ r. IsRoomOf queue.now.table.rule.plan r.left) }
+{
     let order = vec![in alloc; 0u32; usize::from(LINES)]?;
     let seats = Vec::with_capacity(alloc, submitters)?;
     let left = rooms(alloc, &queue.table.rule.plan)?;
     Ok(Room { order, seats, left })
 }
 
-fn seats_of<O: Out>(submitters: Vec<TaskSubmitter<O>>, seats: &mut Vec<SockSeat<O>>) {
+// The seats of the submitters, in their order.
+fn seats_of<O: Out>(submitters: Vec<TaskSubmitter<O>>, seats: &mut Vec<SockSeat<O>>)
+    requires empty { (seats.old.items ≡ []) × (vec_len seats.old ≡ 0) }
+    requires room { length submitters.items ≤ vec_capacity seats.old }
+    ensures { seats.new.items ≡ map (λ s. s.seat) submitters.items }
+{
     for submitter in submitters {
         let TaskSubmitter { seat, .. } = submitter;
         seats.push_reserved(seat);
@@ -59,11 +69,10 @@ impl<O: Out> TaskQueue<O> {
         alloc: Global,
         submitters: Vec<TaskSubmitter<O>>,
     ) -> Result<TaskEnd<O>, TasksLeft<O>>
-        ghost tss: { List (List model.Task) }
         requires plan { IsQueuePlan self.table.rule.plan }
-        requires all { AreSubmitters self tss submitters.items }
+        requires all { (tss : List (List model.Task)) × AreSubmitters self tss submitters.items }
         requires count { length submitters.items ≡ self.table.rule.plan.seats }
-        ensures ended { IfOk result (λ e. NoLineTwice tss → TasksEnded tss submitters.items e) }
+        ensures ended { IfOk result (λ e. (tss : List (List model.Task)) → AreSubmitters self tss submitters.items → NoLineTwice tss → TasksEnded tss submitters.items e) }
         ensures untouched { IfErr result (λ e. (e.queue ≡ self) × (e.submitters ≡ submitters)) }
     {
         let Ok(room) = room_for(alloc, &self, submitters.len()) else {

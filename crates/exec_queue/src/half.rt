@@ -9,8 +9,8 @@ use crate::task::{TASK_BYTES, Task};
 use sock_io::{Out, Put, Ready};
 use std::marker::Model;
 
-/// How many bytes it takes at most: those of 4,096 tasks.
-pub const ROOM: usize = 65_536;
+/// How many bytes it takes at most: those of 4,096 tasks, and of one more, which never comes.
+pub const ROOM: usize = 65_552;
 
 /// It takes each piece, as far as its room has place, and runs each task once its sixteen bytes have come. Sixteen bytes that are no
 /// task are passed over. It fails only where it was finished or its room is full.

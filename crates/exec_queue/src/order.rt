@@ -1,6 +1,6 @@
 // The order in which tasks were accepted, out of the words of their places.
 ghost use Rattle.std.specs.Prelude.{◌≡◌, ◌*◌, ◌≤◌, ℕ, List, length, take};
-ghost use Rattle.exec_queue.specs.LinesInOrder.{AreWithin, AreLinesOf};
+ghost use Rattle.exec_queue.specs.LinesInOrder.{AreLinesOf};
 
 use sock_words::PlaceWord;
 
@@ -11,11 +11,10 @@ pub struct Counts {
     pub ran: usize,
 }
 
-/// Puts each line at its position. The order has room for each line.
+/// Puts each line at its position, where the order has that one.
 pub fn put_lines(words: &[PlaceWord], order: &mut [u32]) -> Counts
     requires few { length order.old ≤ 4096 }
     requires words { 8 * length order.old ≤ length words.now }
-    requires within { AreWithin words.now (length order.old) }
     ensures lines { (lines : List ℕ) (kept : ℕ) → AreLinesOf words.now (length order.old) lines kept → take result.accepted order.new ≡ lines }
     ensures ran { (lines : List ℕ) (kept : ℕ) → AreLinesOf words.now (length order.old) lines kept → result.ran ≡ kept }
     ensures sized { length order.new ≡ length order.old }
@@ -28,8 +27,8 @@ pub fn put_lines(words: &[PlaceWord], order: &mut [u32]) -> Counts
     };
     for line in 0..order.len() {
         let word = words[8 * line];
-        if !word.is_none() {
-            let position = word.position() as usize;
+        let position = word.position() as usize;
+        if !word.is_none() && position < order.len() {
             order[position] = line as u32 + 1;
             counts.accepted = counts.accepted.max(position + 1);
             if !word.dropped() {

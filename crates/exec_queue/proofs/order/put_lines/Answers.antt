@@ -3,9 +3,9 @@ use Rattle.sock_words.specs.declared.place_word.PlaceWord.{PlaceWord}
 use Rattle.sock_words.specs.PackedWords.{no_place, place_word_position, place_word_dropped}
 use Rattle.exec_queue.specs.declared.order.Counts.{Counts}
 use Rattle.exec_queue.specs.LinesInOrder.{line_word}
-use Rattle.exec_queue.proofs.PositionsOfLines.{IsPut, word_or, step_none, step_kept, step_dropped, all_lines, all_ran}
+use Rattle.exec_queue.proofs.PositionsOfLines.{IsPut, word_or, step_none, step_kept, step_dropped, step_inside, all_lines, all_ran}
 use Rattle.exec_queue.proofs.order.put_lines.Goals as goal
-use Rattle.exec_queue.proofs.order.put_lines.Goals.{then-not-is_none+then-not-dropped, then-not-is_none+else-not-dropped, else-not-is_none}
+use Rattle.exec_queue.proofs.order.put_lines.Goals.{then-not-is_none+then-position-order+then-not-dropped, then-not-is_none+then-position-order+else-not-dropped, else-not-is_none, else-not-is_none-via-then-not-is_none+else-position-order, else-not-is_none-via-else-not-is_none}
 
 not_true : IsTrue false → ⊥
 not_true e = absurd (cc)
@@ -22,34 +22,33 @@ loop-line-preserved c =
     let word = word_or ws (8 * n) _ refl in
     let low : n < length old = omega arith in
     elim c.if-not-is_none.branch [
-      | then-not-is_none+then-not-dropped w ↦
+      | then-not-is_none+then-position-order+then-not-dropped w ↦
           let some_ : line_word ws n ≢ no_place = λ e. absurd (not_true (w.if-not-is_none.ensures.1 (word ∙ e))) in
-          let p_is = w.position-position.ensures ∙ ap place_word_position word in
-          let within = c.requires.within n low some_ in
-          let a_is : c.if-not-is_none.counts.accepted ≡ max c.loop-line.counts.accepted (w.position-position.result + 1) = ap (λ (x : Counts). x.accepted) w.counts-is ∙ w.max.ensures in
-          let r_is : c.if-not-is_none.counts.ran ≡ max c.loop-line.counts.ran (w.position-position.result + 1) = ap (λ (x : Counts). x.ran) w.counts-is ∙ w.max-then-not-dropped.ensures in
+          let p_is = c.position-position.ensures ∙ ap place_word_position word in
+          let within = w.if-position-order.true in
+          let a_is : c.if-not-is_none.counts.accepted ≡ max c.loop-line.counts.accepted (c.position-position.result + 1) = ap (λ (x : Counts). x.accepted) w.counts-is ∙ w.max.ensures in
+          let r_is : c.if-not-is_none.counts.ran ≡ max c.loop-line.counts.ran (c.position-position.result + 1) = ap (λ (x : Counts). x.ran) w.counts-is ∙ w.max-then-not-dropped.ensures in
           record {
             sized = c.if-not-is_none.auto.order ∙ inv.sized;
             end = refl;
             accepted = omega (arith, inv.accepted);
             fewer = omega (arith, inv.fewer);
-            put = λ lines kept are. again ws lines kept _ _ (n + 1) _ _ _ _ w.order-is a_is r_is (step_kept ws old lines kept are c.requires.few n c.loop-line.order c.loop-line.counts.accepted c.loop-line.counts.ran (inv.put lines kept are) low some_ inv.sized w.position-position.result p_is (ap place_word_dropped (sym word) ∙ (sym w.dropped.ensures ∙ w.if-not-dropped.true)));
+            put = λ lines kept are. again ws lines kept _ _ (n + 1) _ _ _ _ w.order-is a_is r_is (step_kept ws old lines kept are c.requires.few n c.loop-line.order c.loop-line.counts.accepted c.loop-line.counts.ran (inv.put lines kept are) low some_ inv.sized c.position-position.result p_is (ap place_word_dropped (sym word) ∙ (sym w.dropped.ensures ∙ w.if-not-dropped.true)));
           }
-      | then-not-is_none+else-not-dropped w ↦
+      | then-not-is_none+then-position-order+else-not-dropped w ↦
           let some_ : line_word ws n ≢ no_place = λ e. absurd (not_true (w.if-not-is_none.ensures.1 (word ∙ e))) in
-          let p_is = w.position-position.ensures ∙ ap place_word_position word in
-          let within = c.requires.within n low some_ in
-          let a_is : c.if-not-is_none.counts.accepted ≡ max c.loop-line.counts.accepted (w.position-position.result + 1) = ap (λ (x : Counts). x.accepted) w.counts-is ∙ w.max.ensures in
+          let p_is = c.position-position.ensures ∙ ap place_word_position word in
+          let within = w.if-position-order.true in
+          let a_is : c.if-not-is_none.counts.accepted ≡ max c.loop-line.counts.accepted (c.position-position.result + 1) = ap (λ (x : Counts). x.accepted) w.counts-is ∙ w.max.ensures in
           let r_is : c.if-not-is_none.counts.ran ≡ c.loop-line.counts.ran = ap (λ (x : Counts). x.ran) w.counts-is in
           record {
             sized = c.if-not-is_none.auto.order ∙ inv.sized;
             end = refl;
             accepted = omega (arith, inv.accepted);
             fewer = omega (arith, inv.fewer);
-            put = λ lines kept are. again ws lines kept _ _ (n + 1) _ _ _ _ w.order-is a_is r_is (step_dropped ws old lines kept are c.requires.few n c.loop-line.order c.loop-line.counts.accepted c.loop-line.counts.ran (inv.put lines kept are) low some_ inv.sized w.position-position.result p_is (ap place_word_dropped (sym word) ∙ (sym w.dropped.ensures ∙ w.if-not-dropped.false)));
+            put = λ lines kept are. again ws lines kept _ _ (n + 1) _ _ _ _ w.order-is a_is r_is (step_dropped ws old lines kept are c.requires.few n c.loop-line.order c.loop-line.counts.accepted c.loop-line.counts.ran (inv.put lines kept are) low some_ inv.sized c.position-position.result p_is (ap place_word_dropped (sym word) ∙ (sym w.dropped.ensures ∙ w.if-not-dropped.false)));
           }
       | else-not-is_none w ↦
-          let none_ : line_word ws n ≡ no_place = sym word ∙ w.if-not-is_none.ensures.0 refl in
           let a_is : c.if-not-is_none.counts.accepted ≡ c.loop-line.counts.accepted = ap (λ (x : Counts). x.accepted) w.counts-is in
           let r_is : c.if-not-is_none.counts.ran ≡ c.loop-line.counts.ran = ap (λ (x : Counts). x.ran) w.counts-is in
           record {
@@ -57,7 +56,17 @@ loop-line-preserved c =
             end = refl;
             accepted = omega (arith, inv.accepted);
             fewer = omega (arith, inv.fewer);
-            put = λ lines kept are. again ws lines kept _ _ (n + 1) _ _ _ _ w.order-is a_is r_is (step_none ws old lines kept are c.requires.few n c.loop-line.order c.loop-line.counts.accepted c.loop-line.counts.ran (inv.put lines kept are) none_);
+            put = λ lines kept are. again ws lines kept _ _ (n + 1) _ _ _ _ w.order-is a_is r_is (elim w.else-not-is_none.branch [
+              | else-not-is_none-via-then-not-is_none+else-position-order x ↦
+                  let some_ : line_word ws n ≢ no_place = λ e. absurd (not_true (x.if-not-is_none.ensures.1 (word ∙ e))) in
+                  let p_is = c.position-position.ensures ∙ ap place_word_position word in
+                  let out = x.if-position-order.false in
+                  let h = step_inside ws old lines kept are c.requires.few n c.loop-line.order c.loop-line.counts.accepted c.loop-line.counts.ran (inv.put lines kept are) low some_ inv.sized c.position-position.result p_is in
+                  absurd (omega arith)
+              | else-not-is_none-via-else-not-is_none x ↦
+                  let none_ : line_word ws n ≡ no_place = sym word ∙ x.if-not-is_none.ensures.0 refl in
+                  step_none ws old lines kept are c.requires.few n c.loop-line.order c.loop-line.counts.accepted c.loop-line.counts.ran (inv.put lines kept are) none_
+            ]);
           }
     ]
 
