@@ -1,3 +1,4 @@
 pub mod SentMessages
 pub mod ListsInOneOrder
 pub mod MessagesInOneOrder
+pub mod PlacesInOrder

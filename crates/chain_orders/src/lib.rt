@@ -3,5 +3,7 @@
 #![tactic(auto)]
 
 mod orders;
+mod places;
 
 pub use orders::messages_in_one_order;
+pub use places::messages_at_their_places;

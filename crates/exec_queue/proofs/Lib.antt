@@ -1,0 +1,11 @@
+pub mod EndOfQueue
+pub mod NotesOfSubmitters
+pub mod OrderOfTasks
+pub mod SentTasks
+pub mod BytesOfTasks
+pub mod LinesApart
+pub mod PositionsOfLines
+pub mod TasksOfBytes
+pub mod SubmitterNotes
+pub mod SubmitterCalls
+pub mod SeatsOfNewQueue
