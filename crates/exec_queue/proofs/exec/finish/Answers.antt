@@ -16,8 +16,8 @@ returns-in-Ok-clause-ran g c = λ tss are once.
     let long : length o.taken ≡ 16 * length e.tasks + length e.part = ap length taken_is ∙ bytes_long e.part e.tasks in
     subst (λ (ts : List Task). Ran tss (stops_of c.args.submitters.items) c.in-Ok.field-0.order.items c.in-Ok.field-0.ran ts) (sym again)
     (e.ran (dite (dec_lt 0 o.faults)
-        (λ some_. inr (let full = c.runner.ensures.full some_ in let few = e.few in let part = e.part_few in omega arith))
-        (λ none_. inl (omega arith))))
+    (λ some_. inr (let full = c.runner.ensures.full some_ in let few = e.few in let part = e.part_few in omega arith))
+    (λ none_. inl (omega arith))))
 
 pub returns-in-Ok-clause-answers : goal.returns-in-Ok-clause-answers
 returns-in-Ok-clause-answers g c = λ tss are once.
@@ -26,5 +26,5 @@ returns-in-Ok-clause-answers g c = λ tss are once.
     let taken_is = e.tells o.taken refl ∙ e.took_is in
     let long : length o.taken ≡ 16 * length e.tasks + length e.part = ap length taken_is ∙ bytes_long e.part e.tasks in
     e.answers (dite (dec_lt 0 o.faults)
-        (λ some_. absurd (let full = c.runner.ensures.full some_ in let few = e.few in let part = e.part_few in omega arith))
-        (λ none_. omega arith))
+    (λ some_. absurd (let full = c.runner.ensures.full some_ in let few = e.few in let part = e.part_few in omega arith))
+    (λ none_. omega arith))
