@@ -1,8 +1,7 @@
 -- Tasks are read again from their bytes.
-use Rattle.std.proofs.Common.{◌≡◌, ◌≢◌, ◌⊎◌, inl, inr, ℕ, ◌+◌, ◌*◌, ◌/◌, ◌^◌, ◌<◌, ◌≤◌, suc, zero, Bool, true, false, nat_le, ◌&&◌, ◌==◌, if◌then◌else◌, Option, None, Some, List, [], ◌∷◌, ◌++◌, length, take, drop, flat_map, refl, sym, ap, ◌∙◌, subst, arith, append_assoc, length-append}
-use Rattle.std.specs.Prelude.{slice_index}
-use Rattle.std.specs.Option.{option_to_list, unwrap_or}
-use Rattle.std.specs.Int.{w32, w64, to_be_bytes, from_be_bytes}
+use Rattle.std.proofs.Common.{◌≡◌, ℕ, ◌+◌, ◌*◌, ◌/◌, ◌<◌, ◌≤◌, suc, zero, Bool, true, false, nat_le, ◌&&◌, if◌then◌else◌, Option, None, Some, List, [], ◌∷◌, ◌++◌, length, take, drop, flat_map, refl, sym, ap, ◌∙◌, arith, append_assoc, length-append}
+use Rattle.std.specs.Option.{option_to_list}
+use Rattle.std.specs.Int.{w64, to_be_bytes, from_be_bytes}
 use Rattle.std.proofs.lemmas.Nat.{from_be_bytes-to_be_bytes_4, from_be_bytes-to_be_bytes_8}
 use Rattle.std.proofs.lemmas.Bool.Decides.{nat_tests}
 use Rattle.std.proofs.Math.Seq.{take-append_seam, drop-append-add}
@@ -10,7 +9,7 @@ use mathlib.Core.Option.{some, some-injective, some-ne-none}
 use lib.ListN.{get_elem?}
 use Rattle.exec_queue.specs.declared.task.Task.{Task}
 use Rattle.exec_queue.specs.EndedQueue.{IsWhole, AllWhole}
-use Rattle.exec_queue.specs.Tasks.{IsTask, task_bytes, task_of, tasks_upto, tasks_of}
+use Rattle.exec_queue.specs.Tasks.{task_bytes, task_of, tasks_upto, tasks_of}
 
 chosen : (c : Bool) (x y : Task) → c ≡ true → x ≡ y → (if c then Some x else None) ≡ Some y
 chosen true x y e is = ap Some is

@@ -1,5 +1,5 @@
 -- What all submitters noted of the queue's socket, once the table is closed.
-use Rattle.std.proofs.Common.{◌≡◌, ◌≢◌, ◌⊎◌, inl, inr, ℕ, zero, suc, ◌+◌, ◌<◌, ◌≤◌, Bool, true, false, cond, eqb, List, [], ◌∷◌, ◌++◌, length, map, flat_map, refl, sym, ap, ◌∙◌, subst, arith}
+use Rattle.std.proofs.Common.{◌≡◌, inl, inr, ℕ, zero, suc, ◌+◌, ◌<◌, ◌≤◌, Bool, true, false, cond, eqb, List, [], ◌∷◌, ◌++◌, flat_map, refl, sym, ap, ◌∙◌, subst, arith}
 use mathlib.Core.Logic.{dite}
 use native.Mathlib.Decide.{dec_lt}
 use mathlib.Core.Option.{some, some-injective, some-ne-none}
@@ -19,7 +19,7 @@ use Rattle.sock_model.specs.Marks.{about}
 use Rattle.sock_model.specs.MarkWeights.{is_failer, is_known, is_saw, is_met, is_linked}
 use Rattle.sock_model.specs.SlotRows.{marks_of}
 use Rattle.sock_model.specs.SocketTableLayout.{request_index}
-use Rattle.sock_rule.specs.LinkFaultNotes.{is_fault, faults_link, faults_of}
+use Rattle.sock_rule.specs.LinkFaultNotes.{is_fault, faults_link}
 use Rattle.sock_rule.specs.declared.homes.SockHome.{SockHome}
 use Rattle.sock_table.specs.ClosedSocketTable.{ClosedBy}
 use Rattle.chain_orders.specs.MessagesInOneOrder.{LinkFailed}
@@ -31,7 +31,7 @@ use Rattle.exec_queue.specs.declared.task.Task.{Task}
 use Rattle.exec_queue.specs.declared.queue.TaskQueue.{TaskQueue}
 use Rattle.exec_queue.specs.declared.queue.TaskSubmitter.{TaskSubmitter}
 use Rattle.exec_queue.specs.Submitters.{IsSubmitter, IsQueuePlan}
-use Rattle.exec_queue.specs.StoppedQueue.{SawLater, failings, NotedFault, Failed, MadeOne, NotesFit}
+use Rattle.exec_queue.specs.StoppedQueue.{SawLater, failings, NotedFault, Failed, NotesFit}
 use Rattle.exec_queue.specs.EndedQueue.{AreSubmitters, stops_of}
 use Rattle.exec_queue.proofs.SentTasks.{seats_of}
 

@@ -1,20 +1,17 @@
 -- The order of all tasks, as the place words tell it.
-use Rattle.std.proofs.Common.{◌≡◌, ◌≢◌, ◌⊎◌, inl, inr, ℕ, zero, suc, ◌+◌, ◌*◌, ◌-◌, ◌<◌, ◌≤◌, nat_le, Bool, true, cond, eqb, eq-eqb, List, [], ◌∷◌, ◌++◌, length, take, drop, map, flat_map, refl, sym, ap, ◌∙◌, subst, arith, length-append}
+use Rattle.std.proofs.Common.{◌≡◌, ◌≢◌, ◌⊎◌, inl, inr, ℕ, zero, suc, ◌+◌, ◌*◌, ◌-◌, ◌<◌, ◌≤◌, nat_le, Bool, cond, eq-eqb, List, [], ◌∷◌, ◌++◌, length, take, drop, map, flat_map, refl, sym, ap, ◌∙◌, subst, arith, length-append}
 use Rattle.std.proofs.lemmas.List.{length-map}
-use Rattle.std.specs.List.{filter}
-use mathlib.Core.Option.{some, some-injective, some-ne-none}
+use mathlib.Core.Option.{some, some-ne-none}
 use lib.ListN.{get_elem?}
-use Rattle.atomic_table.specs.declared.shared.Seat.{Seat}
 use Rattle.brpc_model.specs.PlaceWords.{word_at}
 use Rattle.sock_io.specs.LinkHalves.{OutState}
 use Rattle.sock_io.specs.declared.link.Out.{Ghosts}
 use Rattle.sock_words.specs.declared.plain.Plan.{Plan}
 use Rattle.sock_words.specs.declared.place_word.PlaceWord.{PlaceWord}
 use Rattle.sock_words.specs.PackedWords.{no_place, place_word}
-use Rattle.sock_model.specs.declared.view.View.{View}
 use Rattle.chain_orders.specs.SentMessages.{Sent, index_of, sent_by, on_link, bytes_of}
 use Rattle.chain_orders.specs.ListsInOneOrder.{AreMerged}
-use Rattle.chain_orders.specs.MessagesInOneOrder.{IndexesDiffer, IsBegun}
+use Rattle.chain_orders.specs.MessagesInOneOrder.{IsBegun}
 use Rattle.chain_orders.specs.PlacesInOrder.{LinkPlaced, StandsAt, PlacedInOrder}
 use Rattle.chain_orders.proofs.MergedLists.{map_there, map_back}
 use Rattle.chain_orders.proofs.ElementsOfOrder.{of_each, order_differs, merged_map}

@@ -1,5 +1,5 @@
 -- The seats of a queue that is being made.
-use Rattle.std.proofs.Common.{◌≡◌, ◌≢◌, ◌⊎◌, ℕ, ◌+◌, ◌<◌, ◌≤◌, ◌==◌, inl, inr, Bool, true, false, cond, suc, zero, Option, Some, None, IfSome, List, [], ◌∷◌, ◌++◌, length, length-append, map, flat_map, eq-eqb, refl, sym, ap, ◌∙◌, subst, arith}
+use Rattle.std.proofs.Common.{◌≡◌, ◌≢◌, ◌⊎◌, ℕ, ◌+◌, ◌≤◌, inl, inr, Bool, true, false, cond, suc, zero, Option, Some, None, IfSome, List, [], ◌∷◌, ◌++◌, length, length-append, map, flat_map, eq-eqb, refl, sym, ap, ◌∙◌, subst, arith}
 use Rattle.std.specs.Option.{ForSome}
 use Rattle.std.specs.List.{AllByRecursion}
 use mathlib.Core.Option.{some, some-injective, some-ne-none}
@@ -21,7 +21,6 @@ use Rattle.sock_model.specs.declared.view.View.{View}
 use Rattle.sock_model.specs.MarkWeights.{is_failer, is_linked}
 use Rattle.sock_model.specs.SlotRows.{marks_of}
 use Rattle.sock_model.specs.Authors.{pick}
-use Rattle.sock_model.specs.Entries.{on}
 use Rattle.sock_model.specs.Deliveries.{Taken, whole}
 use Rattle.sock_open.specs.slot_steps.proofs.RuleNumbers.{pair_is}
 use Rattle.sock_open.specs.NewTableContents.{IsNewSeat, PassesFrom}

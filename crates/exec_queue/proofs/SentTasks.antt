@@ -1,5 +1,5 @@
 -- The messages that submitters sent are their tasks.
-use Rattle.std.proofs.Common.{◌≡◌, ◌≢◌, ℕ, zero, suc, ◌+◌, ◌*◌, ◌-◌, ◌<◌, ◌≤◌, ◌^◌, Option, List, [], ◌∷◌, ◌++◌, length, take, map, flat_map, refl, sym, ap, ◌∙◌, subst, arith}
+use Rattle.std.proofs.Common.{◌≡◌, ℕ, zero, suc, ◌*◌, ◌-◌, ◌<◌, ◌^◌, Option, List, [], ◌∷◌, ◌++◌, map, refl, sym, ap, ◌∙◌, subst, arith}
 use Rattle.std.specs.Option.{unwrap_or}
 use mathlib.Core.Option.{some, some-injective, some-ne-none}
 use lib.ListN.{get_elem?}
@@ -8,9 +8,9 @@ use Rattle.sock_io.specs.declared.link.Out.{Ghosts}
 use Rattle.sock_rule.specs.declared.homes.SockHome.{SockHome}
 use Rattle.sock_model.specs.declared.chain.Entry.{Entry}
 use Rattle.sock_model.specs.declared.view.View.{View}
-use Rattle.chain_orders.specs.SentMessages.{Sent, index_of, sent_of, lists_of, sent_by, on_link, bytes_of}
+use Rattle.chain_orders.specs.SentMessages.{Sent, index_of, sent_of, sent_by}
 use Rattle.chain_orders.specs.MessagesInOneOrder.{IndexesDiffer}
-use Rattle.chain_orders.proofs.MergedLists.{map_there, map_back}
+use Rattle.chain_orders.proofs.MergedLists.{map_there}
 use Rattle.exec_queue.specs.declared.task.Task.{Task}
 use Rattle.exec_queue.specs.declared.queue.TaskQueue.{TaskQueue}
 use Rattle.exec_queue.specs.declared.queue.TaskSubmitter.{TaskSubmitter}

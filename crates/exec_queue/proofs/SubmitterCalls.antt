@@ -1,5 +1,5 @@
 -- What the calls of a submitter leave of its seat.
-use Rattle.std.proofs.Common.{◌≡◌, ◌≢◌, ℕ, ◌+◌, ◌*◌, ◌-◌, ◌<◌, ◌≤◌, ◌⊎◌, inl, inr, Bool, true, false, List, [], ◌∷◌, ◌++◌, length, suc, zero, cond, refl, sym, ap, ◌∙◌, subst, arith}
+use Rattle.std.proofs.Common.{◌≡◌, ◌≢◌, ℕ, ◌+◌, ◌<◌, ◌≤◌, ◌⊎◌, inl, inr, Bool, true, false, List, [], ◌∷◌, ◌++◌, length, suc, zero, refl, sym, ap, ◌∙◌, subst, arith}
 use Rattle.std.specs.List.{AllByRecursion}
 use Rattle.std.proofs.lemmas.Bool.Decides.{eqb_tells}
 use Rattle.atomic_table.specs.Seated.{TableId}
@@ -38,9 +38,9 @@ use Rattle.write_chain.specs.declared.entry.Refused.TheVariants as refused
 use Rattle.exec_queue.specs.declared.task.Task.{Task}
 use Rattle.exec_queue.specs.declared.queue.TaskQueue.{TaskQueue}
 use Rattle.exec_queue.specs.declared.queue.TaskSubmitter.{TaskSubmitter}
-use Rattle.exec_queue.specs.StoppedQueue.{NotesFit, Grew, FoundStopped, SawLater, failings}
+use Rattle.exec_queue.specs.StoppedQueue.{NotesFit, Grew, FoundStopped, failings}
 use Rattle.exec_queue.specs.Submitters.{AreSubmitted, IsSubmitted, IsSubmitter, IsFreshLine, LinesDiffer}
-use Rattle.exec_queue.proofs.SubmitterNotes.{ended_none, held_grew, back_grew, failed_grew, through, notes_still, notes_fit, stopped_through, stopped_later, now_told, now_full, all_taken, full_through, never_failed}
+use Rattle.exec_queue.proofs.SubmitterNotes.{ended_none, held_grew, back_grew, through, notes_still, notes_fit, stopped_through, stopped_later, now_told, now_full, all_taken, full_through, never_failed}
 use Rattle.std.proofs.Math.Dec.{eqb}
 
 -- what is written leaves the lists

@@ -1,5 +1,5 @@
 -- How the notes of a submitter grow by each call that it makes.
-use Rattle.std.proofs.Common.{◌≡◌, ◌≢◌, ℕ, ◌+◌, ◌-◌, ◌<◌, ◌≤◌, ◌⊎◌, inl, inr, Bool, true, false, cond, nat_le, suc, zero, List, [], ◌∷◌, ◌++◌, length, refl, sym, ap, ◌∙◌, subst, arith}
+use Rattle.std.proofs.Common.{◌≡◌, ℕ, ◌+◌, ◌-◌, ◌<◌, ◌≤◌, ◌⊎◌, inl, inr, Bool, true, false, cond, nat_le, suc, zero, List, [], ◌∷◌, ◌++◌, refl, sym, ap, ◌∙◌, subst, arith}
 use mathlib.Core.Logic.{dite}
 use mathlib.Core.Option.{some, some-ne-none}
 use native.Mathlib.Decide.{ℕ_discrete}
@@ -10,16 +10,15 @@ use Rattle.sock_words.specs.declared.plain.Plan.{Plan}
 use Rattle.sock_words.specs.PackedWords.{socket_id_slot, socket_id_version, vref_version}
 use Rattle.sock_words.specs.Totals.{total}
 use Rattle.sock_words.specs.declared.vref.Vref.{Vref}
-use Rattle.sock_table.specs.NamesStoredAndFound.{HasSeen}
 use Rattle.sock_model.specs.declared.marks.Mark.{Mark}
 use Rattle.sock_model.specs.declared.marks.Mark.TheVariants.{Hold, Saw, Failer, Freer, Met, Stored, Told, Recycling}
 use Rattle.sock_model.specs.declared.chain.Heading.{Heading}
 use Rattle.sock_model.specs.declared.view.View.{View}
-use Rattle.sock_model.specs.MarkWeights.{only, is_failer, is_linked, is_met, is_saw}
+use Rattle.sock_model.specs.MarkWeights.{is_failer, is_linked, is_met, is_saw}
 use Rattle.sock_model.specs.SlotRows.{marks_of}
 use Rattle.sock_model.specs.SocketTableLayout.{request_index}
 use Rattle.sock_open.specs.slot_steps.proofs.RuleNumbers.{only-same}
-use Rattle.sock_rule.specs.LinkFaultNotes.{fault, end_note, is_fault}
+use Rattle.sock_rule.specs.LinkFaultNotes.{end_note, is_fault}
 use Rattle.sock_rule.specs.MarksComeAndGo.{Became}
 use Rattle.sock_rule.specs.declared.homes.Letter.{Letter}
 use Rattle.sock_table.specs.declared.refs.SockRef.{SockRef}
@@ -32,7 +31,7 @@ use Rattle.write_chain.specs.declared.entry.Started.{Started}
 use Rattle.write_chain.specs.declared.entry.Started.TheVariants as started
 use Rattle.write_chain.specs.declared.entry.Refused.{Refused}
 use Rattle.write_chain.specs.declared.entry.Refused.TheVariants as refused
-use Rattle.exec_queue.specs.StoppedQueue.{SawLater, failings, NotedFault, Failed, MadeOne, NotesFit, FoundStopped, FoundMore, Grew}
+use Rattle.exec_queue.specs.StoppedQueue.{SawLater, failings, NotedFault, Failed, NotesFit, FoundStopped, FoundMore, Grew}
 
 -- ## From call to call
 

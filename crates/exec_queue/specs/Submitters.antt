@@ -1,10 +1,8 @@
 -- What a submitter's seat has of its tasks.
-use Rattle.std.specs.Prelude.{ℕ, ◌≡◌, ◌≢◌, ◌*◌, ◌-◌, ◌^◌, ◌<◌, ◌≤◌, List, [], ◌∷◌, length}
+use Rattle.std.specs.Prelude.{ℕ, ◌≡◌, ◌≢◌, ◌*◌, ◌-◌, ◌^◌, ◌<◌, ◌≤◌, List, [], ◌∷◌}
 use Rattle.std.specs.List.{AllByRecursion}
-use Rattle.atomic_table.specs.Seated.{TableId}
 use Rattle.sock_io.specs.declared.link.Out.{Ghosts}
 use Rattle.sock_words.specs.declared.plain.Plan.{Plan}
-use Rattle.sock_words.specs.declared.plain.Label.{Label}
 use Rattle.sock_model.specs.declared.chain.Entry.{Entry}
 use Rattle.sock_model.specs.declared.chain.Heading.{Heading}
 use Rattle.write_chain.specs.ReadyToSend.{IsReady}

@@ -1,5 +1,4 @@
 use Rattle.std.proofs.Common.{◌≡◌, ◌*◌, ◌≤◌, ◌-◌, length}
-use Rattle.exec_queue.specs.declared.half.TheConstants.{ROOM}
 use Rattle.exec_queue.specs.Tasks.{tasks_upto}
 use Rattle.exec_queue.proofs.half.run_whole.Given as goal
 

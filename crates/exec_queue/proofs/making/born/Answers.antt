@@ -1,5 +1,3 @@
-use Rattle.std.proofs.Common.{refl, subst, Some, [], ◌∷◌, ap, length, arith, length-append}
-use Rattle.sock_open.specs.NewTableContents.{PassesFrom}
 use Rattle.exec_queue.proofs.SeatsOfNewQueue.{new_idle, begun, one_pass}
 use Rattle.exec_queue.proofs.making.born.Goals as goal
 

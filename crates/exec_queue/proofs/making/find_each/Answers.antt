@@ -1,4 +1,4 @@
-use Rattle.std.proofs.Common.{◌≡◌, ◌+◌, ◌≤◌, [], ◌∷◌, List, Some, IfSome, length, length-append, arith, sym, ap, subst}
+use Rattle.std.proofs.Common.{[], ◌∷◌, Some, IfSome, length, length-append, arith, sym, ap, subst}
 use Rattle.std.specs.List.{AllByRecursion}
 use Rattle.sock_open.specs.NewTableContents.{AreNewSeats}
 use Rattle.sock_open.proofs.Racing.{popped}

@@ -1,4 +1,4 @@
-use Rattle.std.proofs.Common.{◌≡◌, ◌+◌, ◌≤◌, [], ◌∷◌, List, false, length, length-append, arith, sym, ap, ◌∙◌, subst}
+use Rattle.std.proofs.Common.{◌+◌, [], ◌∷◌, false, length, length-append, arith, sym, ap, ◌∙◌, subst}
 use Rattle.std.specs.List.{AllByRecursion}
 use Rattle.exec_queue.specs.NewQueue.{IsBeginner, AreNewFrom}
 use Rattle.exec_queue.proofs.SeatsOfNewQueue.{all_before, new_then, new_submitter}

@@ -1,4 +1,4 @@
-use Rattle.std.proofs.Common.{◌≡◌, ℕ, ◌+◌, ◌-◌, ◌*◌, ◌<◌, ◌≤◌, length}
+use Rattle.std.proofs.Common.{◌≡◌, ◌≤◌, length}
 use Rattle.exec_queue.proofs.PositionsOfLines.{PutUpTo}
 use Rattle.exec_queue.proofs.order.put_lines.Given as goal
 

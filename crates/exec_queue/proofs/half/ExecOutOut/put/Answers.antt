@@ -1,4 +1,4 @@
-use Rattle.std.proofs.Common.{sym, ap, ◌∙◌, subst, arith, ℕ, List}
+use Rattle.std.proofs.Common.{sym, ap, ◌∙◌, arith}
 use Rattle.exec_queue.specs.Tasks.{tasks_upto}
 use Rattle.exec_queue.proofs.TasksOfBytes.{upto_stays}
 use Rattle.exec_queue.proofs.half.ExecOutOut.put.Goals as goal

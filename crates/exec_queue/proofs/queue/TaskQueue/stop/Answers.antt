@@ -7,7 +7,7 @@ use Rattle.sock_model.specs.declared.view.View.{View}
 use Rattle.sock_table.specs.ReferenceAnswers.{is_freed}
 use Rattle.write_chain.specs.ReadyToSend.{HoldsOne}
 use Rattle.exec_queue.proofs.SubmitterNotes.{now_told, notes_still, gone_grew, gone_stopped, stopped_later, failed_grew, found_failed_grew, found_failed_stopped, never_stopped}
-use Rattle.exec_queue.proofs.SubmitterCalls.{kept_submitter, gone_ready, released, noticed_one, call_grew, call_told, call_stopped, call_stops, call_failed}
+use Rattle.exec_queue.proofs.SubmitterCalls.{kept_submitter, gone_ready, released, noticed_one, call_told, call_stopped, call_stops, call_failed}
 use Rattle.sock_words.specs.PackedWords.{socket_id_slot}
 use Rattle.sock_words.specs.Totals.{total}
 use Rattle.sock_model.specs.declared.marks.Mark.{Mark}

@@ -2,8 +2,8 @@ use Rattle.std.proofs.Common.{ℕ, sym, ap, ◌∙◌, subst, arith, refl}
 use Rattle.sock_words.specs.declared.socket_id.SocketId.{SocketId}
 use Rattle.sock_table.specs.declared.refs.SockRef.{SockRef}
 use Rattle.sock_table.specs.ReferenceAnswers.{Holds}
-use Rattle.sock_open.proofs.SeatsHoldingNothing.{done_between, no_notes, holds_it, may_address}
-use Rattle.write_chain.specs.ReadyToSend.{HoldsOne, IsReady, refused_of}
+use Rattle.sock_open.proofs.SeatsHoldingNothing.{done_between, no_notes, holds_it}
+use Rattle.write_chain.specs.ReadyToSend.{HoldsOne, refused_of}
 use Rattle.write_chain.specs.WritingRightInHand.{GaveUp}
 use Rattle.sock_model.specs.declared.view.View.{View}
 use Rattle.sock_table.specs.ReferenceAnswers.{is_freed}
