@@ -1,6 +1,6 @@
 use Rattle.std.proofs.Common.{◌∷◌, ◌+◌, ◌==◌, ℕ, Bool, ◌∙◌, ap, sym, drop}
 use Rattle.std.specs.List.{slice_split}
-use Rattle.script_items.proofs.PiecesOfCutLine.{cut_at, not_cut}
+use Rattle.line_words.proofs.PiecesOfCutLine.{cut_at, not_cut}
 use Rattle.line_words.proofs.words.split_once.Goals as goal
 
 pub returns-in-Some-clause-some : goal.returns-in-Some-clause-some
