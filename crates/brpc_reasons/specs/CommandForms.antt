@@ -29,6 +29,14 @@ highest parameter.Clients = 31
 highest parameter.Operations = 4092
 highest parameter.Connections = 31
 
+-- in words
+abbrev pub range_text : Parameter → List ℕ
+range_text parameter.Seed = codes "a number from 0 to 4294967295"
+range_text parameter.Port = codes "a number from 1 to 65535"
+range_text parameter.Clients = codes "a number from 1 to 31"
+range_text parameter.Operations = codes "a number from 1 to 4092"
+range_text parameter.Connections = codes "a number from 1 to 31"
+
 -- the form of a command
 abbrev pub form_text : Form → List ℕ
 form_text form.Replay = codes "replay"
@@ -38,16 +46,6 @@ form_text form.Gen = codes "gen SEED CLIENTS OPS"
 form_text form.Load = codes "load SEED CLIENTS OPS"
 form_text form.Frames = codes "frames"
 form_text form.Serve = codes "serve PORT N"
-
--- what it takes behind its name
-abbrev pub parameters : Form → List Parameter
-parameters form.Replay = []
-parameters form.Sim = parameter.Seed ∷ []
-parameters form.Run = parameter.Port ∷ []
-parameters form.Gen = parameter.Seed ∷ parameter.Clients ∷ parameter.Operations ∷ []
-parameters form.Load = parameter.Seed ∷ parameter.Clients ∷ parameter.Operations ∷ []
-parameters form.Frames = []
-parameters form.Serve = parameter.Port ∷ parameter.Connections ∷ []
 
 -- the command of a name
 abbrev pub form_of : List ℕ → Option Form

@@ -1,9 +1,10 @@
 -- What is wrong with words that are no command, and how it is said.
-use Rattle.std.specs.Prelude.{ℕ, ◌*◌, nat_lt, if◌then◌else◌, List, [], ◌∷◌, ◌++◌, codes, decimal, Option, Some, None, option_and_then, is_some}
+use Rattle.std.specs.Prelude.{ℕ, ◌*◌, nat_lt, if◌then◌else◌, List, [], ◌∷◌, codes, decimal, Option, Some, None, option_and_then, is_some, flat_map}
 use Rattle.brpc_model.specs.NumberInRange.{number}
 use Rattle.brpc_reasons.specs.SentencePieces.{shown}
-use Rattle.brpc_reasons.specs.CommandForms.{name, lowest, highest, form_text, parameters, form_of, nearest}
+use Rattle.brpc_reasons.specs.CommandForms.{name, lowest, highest, range_text, form_text, form_of, nearest}
 use Rattle.brpc_reasons.specs.declared.forms.Parameter.{Parameter}
+use Rattle.brpc_reasons.specs.declared.forms.Parameter.TheVariants as parameter
 use Rattle.brpc_reasons.specs.declared.forms.Form.{Form}
 use Rattle.brpc_reasons.specs.declared.forms.Form.TheVariants as form
 
@@ -41,16 +42,24 @@ abbrev pub first_or : Option Fault → Option Fault → Option Fault
 first_or (Some fault) other = Some fault
 first_or None other = other
 
--- what is wrong behind the name of a command; `run` may stand alone
+-- what is wrong behind `gen` or `load`
+abbrev pub drawn : Form → List (List ℕ) → Option Fault
+drawn f words = first_or (first_wrong f (parameter.Seed ∷ parameter.Clients ∷ parameter.Operations ∷ []) words) (too_much f words)
+
+-- behind `run`, which may stand alone
+abbrev pub run_wrong : List (List ℕ) → Option Fault
+run_wrong [] = None
+run_wrong (word ∷ more) = first_wrong form.Run (parameter.Port ∷ []) (word ∷ more)
+
+-- behind the name of a command
 abbrev pub behind : Form → List (List ℕ) → Option Fault
-behind form.Replay words = first_wrong form.Replay (parameters form.Replay) words
-behind form.Sim words = first_wrong form.Sim (parameters form.Sim) words
-behind form.Run [] = None
-behind form.Run (word ∷ more) = first_wrong form.Run (parameters form.Run) (word ∷ more)
-behind form.Gen words = first_or (first_wrong form.Gen (parameters form.Gen) words) (too_much form.Gen words)
-behind form.Load words = first_or (first_wrong form.Load (parameters form.Load) words) (too_much form.Load words)
-behind form.Frames words = first_wrong form.Frames (parameters form.Frames) words
-behind form.Serve words = first_wrong form.Serve (parameters form.Serve) words
+behind form.Replay words = first_wrong form.Replay [] words
+behind form.Sim words = first_wrong form.Sim (parameter.Seed ∷ []) words
+behind form.Run words = run_wrong words
+behind form.Gen words = drawn form.Gen words
+behind form.Load words = drawn form.Load words
+behind form.Frames words = first_wrong form.Frames [] words
+behind form.Serve words = first_wrong form.Serve (parameter.Port ∷ parameter.Connections ∷ []) words
 
 -- of a command, or of none of this name
 abbrev pub of_form : List ℕ → List (List ℕ) → Option Form → Option Fault
@@ -64,28 +73,35 @@ words_fault (word ∷ more) = of_form word more (form_of word)
 
 -- ## How it is said
 
-abbrev pub near_text : Option Form → List ℕ
-near_text (Some f) = codes "; the nearest form is " ++ form_text f ++ codes "\n"
-near_text None = codes "; there are replay, sim, run, gen, load, frames and serve\n"
+-- the parts of a sentence, one behind another
+abbrev pub sentence : List (List ℕ) → List ℕ
+sentence parts = flat_map (λ part. part) parts
+
+abbrev pub near_text : List ℕ → Option Form → List ℕ
+near_text word (Some f) = sentence (codes "brpc: there is no command " ∷ shown word ∷ codes "; the nearest form is " ∷ form_text f ∷ codes "\n" ∷ [])
+near_text word None = sentence (codes "brpc: there is no command " ∷ shown word ∷ codes "; there are replay, sim, run, gen, load, frames and serve\n" ∷ [])
 
 abbrev pub no_command_text : List ℕ → List ℕ
-no_command_text word = codes "brpc: there is no command " ++ shown word ++ near_text (nearest word)
+no_command_text word = near_text word (nearest word)
 
 abbrev pub missing_text : Form → Parameter → List ℕ
-missing_text f p = codes "brpc: " ++ name p ++ codes " is missing, a number from " ++ decimal (lowest p) ++ codes " to " ++ decimal (highest p) ++ codes "; the form is " ++ form_text f ++ codes "\n"
+missing_text f p = sentence (codes "brpc: " ∷ name p ∷ codes " is missing, " ∷ range_text p ∷ codes "; the form is " ∷ form_text f ∷ codes "\n" ∷ [])
 
 abbrev pub wrong_text : Form → Parameter → List ℕ → List ℕ
-wrong_text f p word = codes "brpc: " ++ name p ++ codes " is a number from " ++ decimal (lowest p) ++ codes " to " ++ decimal (highest p) ++ codes ", and not " ++ shown word ++ codes "; the form is " ++ form_text f ++ codes "\n"
+wrong_text f p word = sentence (codes "brpc: " ∷ name p ∷ codes " is " ∷ range_text p ∷ codes ", and not " ∷ shown word ∷ codes "; the form is " ∷ form_text f ∷ codes "\n" ∷ [])
+
+abbrev pub too_many_text : Form → List ℕ → List ℕ
+too_many_text f word = sentence (codes "brpc: " ∷ shown word ∷ codes " is one word too many; the form is " ∷ form_text f ∷ codes "\n" ∷ [])
 
 abbrev pub too_much_text : Form → ℕ → ℕ → List ℕ
-too_much_text f clients operations = codes "brpc: CLIENTS times OPS is at most 4092, and not " ++ decimal clients ++ codes " times " ++ decimal operations ++ codes "; the form is " ++ form_text f ++ codes "\n"
+too_much_text f clients operations = sentence (codes "brpc: CLIENTS times OPS is at most 4092, and not " ∷ decimal clients ∷ codes " times " ∷ decimal operations ∷ codes "; the form is " ∷ form_text f ∷ codes "\n" ∷ [])
 
 abbrev pub fault_text : Fault → List ℕ
 fault_text NoWord = codes "brpc: no command is given; there are replay, sim, run, gen, load, frames and serve\n"
 fault_text (NoCommand word) = no_command_text word
 fault_text (Missing f p) = missing_text f p
 fault_text (Wrong f p word) = wrong_text f p word
-fault_text (TooMany f word) = codes "brpc: " ++ shown word ++ codes " is one word too many; the form is " ++ form_text f ++ codes "\n"
+fault_text (TooMany f word) = too_many_text f word
 fault_text (TooMuch f clients operations) = too_much_text f clients operations
 
 abbrev pub told : Option Fault → List ℕ

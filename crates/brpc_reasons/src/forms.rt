@@ -59,6 +59,18 @@ pub fn highest(parameter: Parameter) -> u32
     }
 }
 
+/// Which number it is.
+pub fn range_text(parameter: Parameter) -> &'static [u8]
+    ensures { result.now ≡ model.range_text parameter }
+{
+    match parameter {
+        Parameter::Seed => b"a number from 0 to 4294967295",
+        Parameter::Port => b"a number from 1 to 65535",
+        Parameter::Clients | Parameter::Connections => b"a number from 1 to 31",
+        Parameter::Operations => b"a number from 1 to 4092",
+    }
+}
+
 /// The form of a command.
 pub fn form_text(form: Form) -> &'static [u8]
     ensures { result.now ≡ model.form_text form }
@@ -71,25 +83,6 @@ pub fn form_text(form: Form) -> &'static [u8]
         Form::Load => b"load SEED CLIENTS OPS",
         Form::Frames => b"frames",
         Form::Serve => b"serve PORT N",
-    }
-}
-
-/// What a command takes behind its name.
-pub fn parameters(form: Form) -> &'static [Parameter]
-    ensures { result.now ≡ model.parameters form }
-{
-    match form {
-        Form::Replay | Form::Frames => &[],
-        Form::Sim => &[Parameter::Seed],
-        Form::Run => &[Parameter::Port],
-        Form::Gen | Form::Load => {
-            &[
-                Parameter::Seed,
-                Parameter::Clients,
-                Parameter::Operations,
-            ]
-        }
-        Form::Serve => &[Parameter::Port, Parameter::Connections],
     }
 }
 

@@ -1,8 +1,9 @@
 ghost use Rattle.brpc_reasons.specs.declared.piece.TheConstants.{SHOWN};
-ghost use Rattle.std.specs.Prelude.{◌≡◌, ◌≤◌, decimal, length, map};
+ghost use Rattle.std.specs.Prelude.{◌≡◌, ◌≤◌, decimal, length, map, take};
 ghost use Rattle.frame_print.specs.TextWrittenToSink.{Writes};
-ghost use Rattle.brpc_reasons.specs.SentencePieces.{piece_text, pieces_text, shown, shown_byte};
+ghost use Rattle.brpc_reasons.specs.SentencePieces.{closing, piece_text, pieces_text, shown, shown_byte};
 
+use crate::forms::{Form, Parameter, form_text, name, range_text};
 use itoa::Buffer;
 use sock_io::{Failed, Sink};
 
@@ -15,7 +16,13 @@ pub enum Piece<'a> {
     /// This text.
     Text(&'a [u8]),
     /// A number in decimal.
-    Number(u64),
+    Number(u32),
+    /// How a word behind a command's name is called.
+    Name(Parameter),
+    /// The numbers that it may be.
+    Range(Parameter),
+    /// The form of a command.
+    Form(Form),
     /// What came from outside, in quotes.
     Shown(&'a [u8]),
 }
@@ -36,6 +43,9 @@ fn print_piece<K: Sink>(out: &mut K, piece: Piece) -> Result<(), Failed>
     match piece {
         Piece::Text(text) => print_text(out, text),
         Piece::Number(number) => print_number(out, number),
+        Piece::Name(parameter) => print_text(out, name(parameter)),
+        Piece::Range(parameter) => print_text(out, range_text(parameter)),
+        Piece::Form(form) => print_text(out, form_text(form)),
         Piece::Shown(bytes) => print_shown(out, bytes),
     }
 }
@@ -46,7 +56,7 @@ fn print_text<K: Sink>(out: &mut K, text: &[u8]) -> Result<(), Failed>
     sock_io::write_all(out, text)
 }
 
-fn print_number<K: Sink>(out: &mut K, number: u64) -> Result<(), Failed>
+fn print_number<K: Sink>(out: &mut K, number: u32) -> Result<(), Failed>
     ensures { Writes (K.state out.old) (K.state out.new) (decimal number) result }
 {
     let mut buffer = Buffer::new();
@@ -58,12 +68,39 @@ fn print_shown<K: Sink>(out: &mut K, bytes: &[u8]) -> Result<(), Failed>
     ensures { Writes (K.state out.old) (K.state out.new) (shown bytes.now) result }
 {
     print_text(out, b"\"")?;
-    print_first(out, &bytes[..bytes.len().min(SHOWN)])?;
-    if bytes.len() > SHOWN {
-        print_text(out, b"...\"")
+    print_front(out, bytes)?;
+    print_closing(out, bytes.len())
+}
+
+fn print_front<K: Sink>(out: &mut K, bytes: &[u8]) -> Result<(), Failed>
+    ensures { Writes (K.state out.old) (K.state out.new) (map shown_byte (take 72 bytes.now)) result }
+{
+    print_first(out, front(bytes))
+}
+
+/// As many bytes as are shown.
+fn front(bytes: &[u8]) -> &[u8]
+    ensures front { result.now ≡ take 72 bytes.now }
+    ensures few { length result.now ≤ SHOWN }
+{
+    if bytes.len() <= SHOWN {
+        bytes
     } else {
-        print_text(out, b"\"")
+        &bytes[..SHOWN]
     }
+}
+
+fn print_closing<K: Sink>(out: &mut K, count: usize) -> Result<(), Failed>
+    ensures { Writes (K.state out.old) (K.state out.new) (closing count) result }
+{
+    print_text(out, closing(count))
+}
+
+/// What closes the quotes round so many bytes.
+fn closing(count: usize) -> &'static [u8]
+    ensures { result.now ≡ closing count }
+{
+    if count > SHOWN { b"...\"" } else { b"\"" }
 }
 
 fn print_first<K: Sink>(out: &mut K, bytes: &[u8]) -> Result<(), Failed>

@@ -3,7 +3,7 @@ ghost use Rattle.frame_print.specs.TextWrittenToSink.{Writes};
 ghost use Rattle.brpc_reasons.specs.WrongWords as model;
 ghost use Rattle.brpc_reasons.specs.WrongWordsMeaning.{meaning};
 
-use crate::forms::{Form, Parameter, form_of, form_text, highest, lowest, name, nearest, parameters};
+use crate::forms::{Form, Parameter, form_of, highest, lowest, nearest};
 use crate::piece::{Piece, print_pieces};
 use script_items::number;
 use sock_io::{Failed, Sink};
@@ -14,13 +14,13 @@ pub enum WordsFault<'a> {
     /// There is none.
     NoWord,
     /// The first is no command.
-    NoCommand(&'a str),
+    NoCommand(&'a [u8]),
     /// The command lacks this one.
     Missing(Form, Parameter),
     /// This one isn't a number in its range.
-    Wrong(Form, Parameter, &'a str),
+    Wrong(Form, Parameter, &'a [u8]),
     /// This one is too many.
-    TooMany(Form, &'a str),
+    TooMany(Form, &'a [u8]),
     /// So many clients with so many operations each are too many operations.
     TooMuch(Form, u32, u32),
 }
@@ -51,7 +51,7 @@ fn first_wrong<'a>(
         return Some(WordsFault::Missing(form, *parameter));
     };
     if number(word.as_bytes(), lowest(*parameter), highest(*parameter)).is_none() {
-        return Some(WordsFault::Wrong(form, *parameter, word));
+        return Some(WordsFault::Wrong(form, *parameter, word.as_bytes()));
     }
     first_wrong(form, others, more)
 }
@@ -61,7 +61,7 @@ fn one_more(form: Form, words: &[String]) -> Option<WordsFault<'_>>
     ensures { option_map meaning result ≡ model.first_wrong form [] (map string_bytes words.now) }
 {
     let (word, _) = first_of(words)?;
-    Some(WordsFault::TooMany(form, word))
+    Some(WordsFault::TooMany(form, word.as_bytes()))
 }
 
 /// Whether so many operations in all are too many.
@@ -80,17 +80,46 @@ fn too_much<'a>(form: Form, words: &'a [String]) -> Option<WordsFault<'a>>
     }
 }
 
+/// What is wrong with the words behind `gen` or `load`.
+fn drawn<'a>(form: Form, words: &'a [String]) -> Option<WordsFault<'a>>
+    ensures { option_map meaning result ≡ model.drawn form (map string_bytes words.now) }
+{
+    let taken = [
+        Parameter::Seed,
+        Parameter::Clients,
+        Parameter::Operations,
+    ];
+    match first_wrong(form, &taken, words) {
+        Some(fault) => Some(fault),
+        None => too_much(form, words),
+    }
+}
+
+/// What is wrong with the words behind `run`, which may stand alone.
+fn run_wrong(words: &[String]) -> Option<WordsFault<'_>>
+    ensures { option_map meaning result ≡ model.run_wrong (map string_bytes words.now) }
+{
+    if words.is_empty() {
+        return None;
+    }
+    first_wrong(Form::Run, &[Parameter::Port], words)
+}
+
 /// What is wrong with the words behind the name of a command.
 fn behind<'a>(form: Form, words: &'a [String]) -> Option<WordsFault<'a>>
     ensures { option_map meaning result ≡ model.behind form (map string_bytes words.now) }
 {
-    if matches!(form, Form::Run) && words.is_empty() {
-        return None;
-    }
-    match first_wrong(form, parameters(form), words) {
-        Some(fault) => Some(fault),
-        None if matches!(form, Form::Gen | Form::Load) => too_much(form, words),
-        None => None,
+    match form {
+        Form::Replay => first_wrong(Form::Replay, &[], words),
+        Form::Sim => first_wrong(Form::Sim, &[Parameter::Seed], words),
+        Form::Run => run_wrong(words),
+        Form::Gen => drawn(Form::Gen, words),
+        Form::Load => drawn(Form::Load, words),
+        Form::Frames => first_wrong(Form::Frames, &[], words),
+        Form::Serve => {
+            let taken = [Parameter::Port, Parameter::Connections];
+            first_wrong(Form::Serve, &taken, words)
+        }
     }
 }
 
@@ -103,7 +132,7 @@ fn words_fault(words: &[String]) -> Option<WordsFault<'_>>
     };
     match form_of(word) {
         Some(form) => behind(form, more),
-        None => Some(WordsFault::NoCommand(word)),
+        None => Some(WordsFault::NoCommand(word.as_bytes())),
     }
 }
 
@@ -130,33 +159,24 @@ fn tell_fault<E: Sink>(errors: &mut E, fault: WordsFault) -> Result<(), Failed>
         WordsFault::NoCommand(word) => tell_no_command(errors, word),
         WordsFault::Missing(form, parameter) => tell_missing(errors, form, parameter),
         WordsFault::Wrong(form, parameter, word) => tell_wrong(errors, form, parameter, word),
-        WordsFault::TooMany(form, word) => print_pieces(
-            errors,
-            &[
-                Piece::Text(b"brpc: "),
-                Piece::Shown(word.as_bytes()),
-                Piece::Text(b" is one word too many; the form is "),
-                Piece::Text(form_text(form)),
-                Piece::Text(b"\n"),
-            ],
-        ),
+        WordsFault::TooMany(form, word) => tell_too_many(errors, form, word),
         WordsFault::TooMuch(form, clients, operations) => {
             tell_too_much(errors, form, clients, operations)
         }
     }
 }
 
-fn tell_no_command<E: Sink>(errors: &mut E, word: &str) -> Result<(), Failed>
+fn tell_no_command<E: Sink>(errors: &mut E, word: &[u8]) -> Result<(), Failed>
     ensures { Writes (E.state errors.old) (E.state errors.new) (model.no_command_text word.now) result }
 {
-    match nearest(word.as_bytes()) {
+    match nearest(word) {
         Some(form) => print_pieces(
             errors,
             &[
                 Piece::Text(b"brpc: there is no command "),
-                Piece::Shown(word.as_bytes()),
+                Piece::Shown(word),
                 Piece::Text(b"; the nearest form is "),
-                Piece::Text(form_text(form)),
+                Piece::Form(form),
                 Piece::Text(b"\n"),
             ],
         ),
@@ -164,7 +184,7 @@ fn tell_no_command<E: Sink>(errors: &mut E, word: &str) -> Result<(), Failed>
             errors,
             &[
                 Piece::Text(b"brpc: there is no command "),
-                Piece::Shown(word.as_bytes()),
+                Piece::Shown(word),
                 Piece::Text(b"; there are replay, sim, run, gen, load, frames and serve\n"),
             ],
         ),
@@ -178,13 +198,11 @@ fn tell_missing<E: Sink>(errors: &mut E, form: Form, parameter: Parameter) -> Re
         errors,
         &[
             Piece::Text(b"brpc: "),
-            Piece::Text(name(parameter)),
-            Piece::Text(b" is missing, a number from "),
-            Piece::Number(u64::from(lowest(parameter))),
-            Piece::Text(b" to "),
-            Piece::Number(u64::from(highest(parameter))),
+            Piece::Name(parameter),
+            Piece::Text(b" is missing, "),
+            Piece::Range(parameter),
             Piece::Text(b"; the form is "),
-            Piece::Text(form_text(form)),
+            Piece::Form(form),
             Piece::Text(b"\n"),
         ],
     )
@@ -194,7 +212,7 @@ fn tell_wrong<E: Sink>(
     errors: &mut E,
     form: Form,
     parameter: Parameter,
-    word: &str,
+    word: &[u8],
 ) -> Result<(), Failed>
     ensures { Writes (E.state errors.old) (E.state errors.new) (model.wrong_text form parameter word.now) result }
 {
@@ -202,15 +220,28 @@ fn tell_wrong<E: Sink>(
         errors,
         &[
             Piece::Text(b"brpc: "),
-            Piece::Text(name(parameter)),
-            Piece::Text(b" is a number from "),
-            Piece::Number(u64::from(lowest(parameter))),
-            Piece::Text(b" to "),
-            Piece::Number(u64::from(highest(parameter))),
+            Piece::Name(parameter),
+            Piece::Text(b" is "),
+            Piece::Range(parameter),
             Piece::Text(b", and not "),
-            Piece::Shown(word.as_bytes()),
+            Piece::Shown(word),
             Piece::Text(b"; the form is "),
-            Piece::Text(form_text(form)),
+            Piece::Form(form),
+            Piece::Text(b"\n"),
+        ],
+    )
+}
+
+fn tell_too_many<E: Sink>(errors: &mut E, form: Form, word: &[u8]) -> Result<(), Failed>
+    ensures { Writes (E.state errors.old) (E.state errors.new) (model.too_many_text form word.now) result }
+{
+    print_pieces(
+        errors,
+        &[
+            Piece::Text(b"brpc: "),
+            Piece::Shown(word),
+            Piece::Text(b" is one word too many; the form is "),
+            Piece::Form(form),
             Piece::Text(b"\n"),
         ],
     )
@@ -228,11 +259,11 @@ fn tell_too_much<E: Sink>(
         errors,
         &[
             Piece::Text(b"brpc: CLIENTS times OPS is at most 4092, and not "),
-            Piece::Number(u64::from(clients)),
+            Piece::Number(clients),
             Piece::Text(b" times "),
-            Piece::Number(u64::from(operations)),
+            Piece::Number(operations),
             Piece::Text(b"; the form is "),
-            Piece::Text(form_text(form)),
+            Piece::Form(form),
             Piece::Text(b"\n"),
         ],
     )
