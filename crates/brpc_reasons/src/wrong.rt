@@ -84,11 +84,7 @@ fn too_much<'a>(form: Form, words: &'a [String]) -> Option<WordsFault<'a>>
 fn drawn<'a>(form: Form, words: &'a [String]) -> Option<WordsFault<'a>>
     ensures { option_map meaning result ≡ model.drawn form (map string_bytes words.now) }
 {
-    let taken = [
-        Parameter::Seed,
-        Parameter::Clients,
-        Parameter::Operations,
-    ];
+    let taken = [Parameter::Seed, Parameter::Clients, Parameter::Operations];
     match first_wrong(form, &taken, words) {
         Some(fault) => Some(fault),
         None => too_much(form, words),
@@ -152,9 +148,9 @@ fn tell_fault<E: Sink>(errors: &mut E, fault: WordsFault) -> Result<(), Failed>
     match fault {
         WordsFault::NoWord => print_pieces(
             errors,
-            &[
-                Piece::Text(b"brpc: no command is given; there are replay, sim, run, gen, load, frames and serve\n"),
-            ],
+            &[Piece::Text(
+                b"brpc: no command is given; there are replay, sim, run, gen, load, frames and serve\n",
+            )],
         ),
         WordsFault::NoCommand(word) => tell_no_command(errors, word),
         WordsFault::Missing(form, parameter) => tell_missing(errors, form, parameter),
