@@ -61,7 +61,7 @@ pub fn run_arguments<
 {
     match all_of(rt.alloc(), args) {
         Ok(args) => run_words(rt, behind_first(&args), errors),
-        Err(_) => ended(NO_MEMORY, &mut StdEdge::new(io::writer(errors))),
+        Err(_) => ended(NO_MEMORY, &[], &mut StdEdge::new(io::writer(errors))),
     }
 }
 

@@ -28,10 +28,10 @@ pub fn run_with<R: Threads + Wait + Sync, S: Source, K: Sink, L: Linker, G: Gate
 ) -> ExitCode
     requires unused { UnusedLinker (L.state links.old) }
     ensures answers { FurtherAnswers (map string_bytes words.now) (source_over (S.state source.old) (S.state source.new)) (sink_over (K.state out.old) (K.state out.new)) (linker_over (TellClosed L.I.state) (TellOffers L.O.state L.I.state) L.tells_in (L.state links.old) (L.state links.new)) (exit_status result) }
-    ensures explained { Wrote (sink_over (E.state errors.old) (E.state errors.new)) (reason_text (exit_status result)) }
+    ensures explained { Wrote (sink_over (E.state errors.old) (E.state errors.new)) (reason_text (map string_bytes words.now) (exit_status result)) }
 {
     let status = further(rt, alloc, words, source, out, links, gate);
-    ended(status, errors)
+    ended(status, words, errors)
 }
 
 /// The same where the words ask for nothing that may wait. It has no right to wait, so it ends.
@@ -46,17 +46,17 @@ pub fn run_alone<S: Source, K: Sink, L: Linker, E: Sink>(
     requires alone { may_wait (map string_bytes words.now) ≡ false }
     requires unused { UnusedLinker (L.state links.old) }
     ensures answers { FurtherAnswersAlone (map string_bytes words.now) (source_over (S.state source.old) (S.state source.new)) (sink_over (K.state out.old) (K.state out.new)) (linker_over (TellClosed L.I.state) (TellOffers L.O.state L.I.state) L.tells_in (L.state links.old) (L.state links.new)) (exit_status result) }
-    ensures explained { Wrote (sink_over (E.state errors.old) (E.state errors.new)) (reason_text (exit_status result)) }
+    ensures explained { Wrote (sink_over (E.state errors.old) (E.state errors.new)) (reason_text (map string_bytes words.now) (exit_status result)) }
 {
     let status = further_alone(alloc, words, source, out, links);
-    ended(status, errors)
+    ended(status, words, errors)
 }
 
 /// Says why the program ends with this number, and ends with it.
-pub fn ended<E: Sink>(status: u8, errors: &mut E) -> ExitCode
+pub fn ended<E: Sink>(status: u8, words: &[String], errors: &mut E) -> ExitCode
     ensures code { exit_status result ≡ status }
-    ensures explained { Wrote (sink_over (E.state errors.old) (E.state errors.new)) (reason_text (exit_status result)) }
+    ensures explained { Wrote (sink_over (E.state errors.old) (E.state errors.new)) (reason_text (map string_bytes words.now) (exit_status result)) }
 {
-    explain(errors, status);
+    explain(errors, words, status);
     ExitCode::from(status)
 }

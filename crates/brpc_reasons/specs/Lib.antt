@@ -1,0 +1,4 @@
+pub mod CommandForms
+pub mod SentencePieces
+pub mod WrongWords
+pub mod WrongWordsMeaning
