@@ -1,5 +1,5 @@
 -- How the program ends, over an outside that it makes itself.
-use Rattle.std.specs.Prelude.{ℕ, ◌≡◌, ◌⊎◌, Bool, true, false, List}
+use Rattle.std.specs.Prelude.{ℕ, ◌≡◌, Bool, true, false, List, [], ◌∷◌, codes, bytes_eq}
 use Rattle.sock_io.specs.LinkHalves.{OutState, InState, LinkerState}
 use Rattle.sock_io.specs.declared.link.Mode.{Mode}
 use Rattle.brpc_eng.specs.ProgramAnswers.{Input, Output, Links, UnusedLinker, linker_over}
@@ -32,6 +32,11 @@ Ends out inn tells_in words number = EndsOver FurtherAnswers (TellClosed inn) (T
 abbrev pub EndsAlone : {A B : Type 0} → (A → OutState) → (B → InState) → (Mode → Bool) → List (List ℕ) → ℕ → Type 0
 EndsAlone out inn tells_in words number = EndsOver FurtherAnswersAlone (TellClosed inn) (TellOffers out inn) tells_in words number
 
--- Words that ask for nothing that may wait end so, over links of one kind; others over links of either of two other kinds
+-- the first word is `serve`
+abbrev pub begins_with_serve : List (List ℕ) → Bool
+begins_with_serve [] = false
+begins_with_serve (word ∷ more) = bytes_eq word (codes "serve")
+
+-- Words that ask for nothing that may wait end so, over links of one kind; of others those that begin with `serve` over links of one more kind, and the rest over links of a third
 abbrev pub EndsBy : (alone running serving : List (List ℕ) → ℕ → Type 0) → List (List ℕ) → ℕ → Type 0
-EndsBy alone running serving words number = (may_wait words ≡ false → alone words number) × (may_wait words ≡ true → running words number ⊎ serving words number)
+EndsBy alone running serving words number = (may_wait words ≡ false → alone words number) × (may_wait words ≡ true → begins_with_serve words ≡ false → running words number) × (may_wait words ≡ true → begins_with_serve words ≡ true → serving words number)

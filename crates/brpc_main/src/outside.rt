@@ -6,7 +6,7 @@ ghost use Rattle.std.specs.declared.vec.IntoIter.{IntoIter};
 ghost use Rattle.brpc_eng.specs.ProgramAnswers.{UnusedLinker};
 ghost use Rattle.brpc_further.specs.FurtherAnswers.{may_wait};
 ghost use Rattle.brpc_main.specs.CommandLineWords.{words_behind};
-ghost use Rattle.brpc_main.specs.ProgramEnding.{Ends, EndsAlone, EndsBy};
+ghost use Rattle.brpc_main.specs.ProgramEnding.{Ends, EndsAlone, EndsBy, begins_with_serve};
 
 use crate::arguments::{all_of, behind_first};
 use crate::run::{ended, run_alone, run_with};
@@ -100,9 +100,11 @@ fn connections(words: &[String]) -> u16 {
 }
 
 /// Whether the first word is `serve`.
-fn is_serve(words: &[String]) -> bool {
-    match words.first() {
-        Some(word) => word.as_str() == "serve",
+fn is_serve(words: &[String]) -> bool
+    ensures { result ≡ begins_with_serve (map string_bytes words.now) }
+{
+    match words.split_first() {
+        Some((word, _)) => word.as_str() == "serve",
         None => false,
     }
 }
