@@ -79,6 +79,7 @@ impl RingReader {
         requires { (0 < length room.old) × (has_ended self.old.ending ≡ false) }
         ensures ring { self.new.ring ≡ self.old.ring }
         ensures none { IfNone result ((self.new.bytes ≡ self.old.bytes) × (has_ended self.new.ending ≡ false)) }
+        ensures unseen { IfNone result (self.new.seen ≡ []) }
         ensures within { IfSome result (λ count. count ≤ length room.new) }
         ensures bytes { IfSome result (λ count. self.new.bytes ≡ self.old.bytes ++ take count room.new) }
         ensures some { IfSome result (λ count. (0 < count) ⊎ (has_ended self.new.ending ≡ true)) }

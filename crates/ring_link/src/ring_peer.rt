@@ -1,4 +1,4 @@
-ghost use Rattle.std.specs.Prelude.{◌≡◌, ◌≢◌, ◌<◌, ◌≤◌, ◌++◌, ◌⊎◌, true, false, length, None, Ok};
+ghost use Rattle.std.specs.Prelude.{◌≡◌, ◌≢◌, ◌<◌, ◌≤◌, ◌++◌, ◌⊎◌, [], true, false, length, None, Ok};
 ghost use Rattle.sock_io.specs.LinkHalves.{IsTakeCount, given_of};
 ghost use Rattle.sock_io.specs.Peer.{ServeStep, has_ended, is_done};
 ghost use Rattle.ring_link.specs.Cells.{IsOpen};
@@ -80,6 +80,7 @@ impl RingPeer {
         requires { has_ended self.old.writer.ending ≡ true }
         ensures step { ServeStep (ring_peer self.old) (Ok result) (ring_peer self.new) }
         ensures rings { SameRings self.old self.new }
+        ensures waits { result ≡ Served.Waiting → self.new.reader.seen ≡ [] }
     {
         if self.reader.is_ended() {
             return Served::Done;
@@ -125,6 +126,7 @@ impl RingPeer {
         requires { (0 < length room.old) × IsOpen self.old.writer.ending }
         ensures step { ServeStep (ring_peer self.old) result (ring_peer self.new) }
         ensures rings { SameRings self.old self.new }
+        ensures waits { result ≡ Ok Served.Waiting → (self.new.reader.seen ≡ []) ⊎ (has_ended self.new.reader.ending ≡ true) }
     {
         if self.reader.is_ended() {
             return Ok(Served::Waiting);
@@ -147,9 +149,12 @@ impl RingPeer {
 impl Peer for RingPeer {
     ghost state = { ring_peer };
 
+    /// It waits only where it saw nothing of what comes next, or no place for what it has to give; or where the link was read to
+    /// its end, and what is behind gives nothing now.
     fn serve(&mut self) -> Result<Served, NoMemory>
         ensures step { ServeStep (ring_peer self.old) result (ring_peer self.new) }
         ensures rings { SameRings self.old self.new }
+        ensures waits { result ≡ Ok Served.Waiting → (self.new.writer.places ≡ 0) ⊎ (self.new.reader.seen ≡ []) ⊎ (has_ended self.new.reader.ending ≡ true) }
     {
         if self.ended {
             return Ok(self.throw_away());
