@@ -1,4 +1,6 @@
 //! What the programs that are timed share: the words of the command line, and the row that tells what came of a loop.
+//!
+//! Proved is that it is safe, and that what it calls is called as its contract asks; no contract says what it prints.
 #![tactic(auto)]
 
 use std::env::Env;

@@ -1,5 +1,8 @@
-//! Loops over the library layer, to be timed from outside: `encode`, `cut`, `buffer` or `malloc`, the bytes of a message,
-//! and how often; `read` or `print`, the sends of each of 31 clients, and how often. It prints how many bytes went through.
+//! Loops over the library layer, to be timed from outside: `encode`, `cut`, `buffer` or `malloc`, the bytes of a
+//! message, and how often; `read` or `print`, the sends of each of 31 clients, and how often. It prints how many bytes
+//! went through.
+//!
+//! Proved is that it is safe, and that what it calls is called as its contract asks. bench/run builds it and times it.
 #![tactic(auto)]
 
 mod buffers;

@@ -1,4 +1,11 @@
-//! The commands of the program: all that each does, over a source, a sink and links that are handed in.
+//! The top call: all that the program does, over a source, a sink and links that are handed in.
+//!
+//! `brpc` meets `Answers` (specs/ProgramAnswers): which status comes of which cause, and what was written with it. A
+//! text of `replay`, `sim` and `load` is of a run by steps (`IsRunText` of `script_run`) and fits its script
+//! (`IsFitting`), one of `run` is of a run on threads (`IsCompleteText` of `script_threads`); `frames` is by
+//! `print_frames`, `serve` by `serve_all`. Links are opened as the script asks and given back (`OpenedBy`). The proofs
+//! draw more from it: 2 comes exactly where the words ask for no command, each script is answered 0 or 7 where no
+//! count rose, and over links that tell all no other text is possible (proofs/Exactly).
 #![tactic(auto)]
 
 mod alone;

@@ -1,6 +1,9 @@
 //! Messages of 32 bytes through one socket, by 1, 2 or 4 threads that share a table: THREADS COUNT PUT_NANOS REQUESTS
-//! [rate|latency]. Each thread sends so many, and a put takes so long. It prints how many messages the link took; with `rate` also
-//! how many a second these were, and with `latency` how long a send took, at p50, p99 and p99.9.
+//! [rate|latency]. Each thread sends so many, and a put takes so long. It prints how many messages the link took; with
+//! `rate` also how many a second these were, and with `latency` how long a send took, at p50, p99 and p99.9.
+//!
+//! Proved is that it is safe, and that what it calls is called as its contract asks (specs/SenderWithOneReference).
+//! bench/chain/run builds it and times it.
 #![tactic(auto)]
 
 mod crew;

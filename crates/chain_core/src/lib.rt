@@ -5,6 +5,9 @@
 //! the head idle writes, first its own message and then all that came behind it, until it puts the head back to idle.
 //! Who finds it busy stores what it found into its own next word and goes. So the requests are linked from the newest
 //! to the oldest, and the one who writes turns the links round, before it writes in the order of the exchanges.
+//!
+//! Conditions are in specs/RequestStepConditions; an exchange that found an idle head gives the right to write
+//! (`TakesRight`).
 #![tactic(auto)]
 
 mod steps;

@@ -1,6 +1,9 @@
-//! Rows of what is read and printed: it answers each line of its standard input by the call that the line's first word names,
-//! and writes other lines as they are. What it has to answer stands in the file `stdout`. Rows of what comes over a wire give
-//! bytes in hexadecimal, and those of scripts and reports their texts between quotes.
+//! Rows of what is read and printed: it answers each line of its standard input by the call that the line's first word
+//! names, and writes other lines as they are. What it has to answer stands in the file `stdout`. Rows of what comes
+//! over a wire give bytes in hexadecimal, and those of scripts and reports their texts between quotes.
+//!
+//! Tests alone: its contracts say no more than that it is safe. The gate compares its answers as two compilers build
+//! it.
 #![tactic(auto)]
 
 mod bytes;

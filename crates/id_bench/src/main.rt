@@ -1,4 +1,8 @@
-//! Call ids that are made, locked and ended by 1 to 64 threads that share a table: so many by each. It prints how many did.
+//! Call ids that are made, locked and ended by 1 to 64 threads that share a table: so many by each. It prints how many
+//! did.
+//!
+//! Proved is that it is safe, and that what it calls is called as its contract asks. bench/ids/run builds it and times
+//! it.
 #![tactic(auto)]
 
 mod ids;

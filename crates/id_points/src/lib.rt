@@ -1,5 +1,8 @@
-//! How the loops on call ids go on behind a step, by the word that it found (bRPC's bthread_id.md): an error is posted, a
-//! lock is given back or got, an end is waited for, an error is decided on.
+//! How the loops on call ids go on behind a step, by the word that it found (bRPC's bthread_id.md): an error is
+//! posted, a lock is given back or got, an end is waited for, an error is decided on.
+//!
+//! Each is a round of the definitions (`round` of `seat_programs`, its lock by `is_sought`). Which errors end a call,
+//! and whose version a response has, it asks `corr_core`.
 #![tactic(auto)]
 
 pub mod call_id;

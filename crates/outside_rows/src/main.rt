@@ -1,8 +1,11 @@
-//! Rows of the top call: it answers each line of its standard input by the links that the line's first word names, and writes
-//! comments as they are. What it has to answer stands in the file `stdout`. The rows are each command, an outside that isn't kind,
-//! links whose other ends give bytes that nobody would send, and outside calls that fail in turn, step by step and on threads, over
-//! links whose other ends move by themselves; clients on threads that make their operations at once; and a server and a client
-//! beside each other, over TCP.
+//! Rows of the top call: it answers each line of its standard input by the links that the line's first word names, and
+//! writes comments as they are. What it has to answer stands in the file `stdout`. The rows are each command, an
+//! outside that isn't kind, links whose other ends give bytes that nobody would send, and outside calls that fail in
+//! turn, step by step and on threads, over links whose other ends move by themselves; clients on threads that make
+//! their operations at once; and a server and a client beside each other, over TCP.
+//!
+//! Tests alone: its contracts say no more than that it is safe. The gate compares its answers as two compilers build
+//! it.
 #![tactic(auto)]
 
 mod answer;

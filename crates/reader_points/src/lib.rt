@@ -1,4 +1,7 @@
 //! Where the reader of a link stands in its program: which step it makes next, and how it goes on behind it.
+//!
+//! Each point means a program (`point_program`, specs/ReaderPoints), whose next step is the reader's; behind a frame
+//! that was cut it goes on as the definitions do (`next_program`, specs/CutsInHand).
 #![tactic(auto)]
 
 pub mod answering;

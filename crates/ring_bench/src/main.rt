@@ -1,6 +1,9 @@
-//! Bytes through rings between threads: bytes|calls SIZE COUNT LINKS. Over each link go so many pieces of so many bytes, to an other
-//! end that throws them away, or so many calls with so many bytes, to one that answers them. It prints how many bytes came over, or
-//! how many the replies have.
+//! Bytes through rings between threads: bytes|calls SIZE COUNT LINKS. Over each link go so many pieces of so many
+//! bytes, to an other end that throws them away, or so many calls with so many bytes, to one that answers them. It
+//! prints how many bytes came over, or how many the replies have.
+//!
+//! Proved is that it is safe, and that what it calls is called as its contract asks. bench/ring/run builds it and
+//! times it.
 #![tactic(auto)]
 
 mod request;

@@ -1,4 +1,7 @@
 //! The text of a row of a file that a program answers, where it stands for more than one line.
+//!
+//! Shared by the programs over files of rows. It is safe; no contract says what it gives, and a wrong text would show
+//! as a row that fails.
 #![tactic(auto)]
 
 use std::alloc::{AllocError, Global};

@@ -1,4 +1,7 @@
 //! What is drawn from a seed: numbers, the script that `gen` makes, and the seats that `sim` ticks.
+//!
+//! `generate` makes exactly the lines of the drawn script (`generated` of `brpc_model` DrawnSeatsAndScripts), which is
+//! read again as itself. `DrawnSeats` gives the seats of `sim_seats`, one after another.
 #![tactic(auto)]
 
 mod draws;

@@ -1,4 +1,8 @@
 //! What one line of a script says, how a line is read by itself, and how its words are written.
+//!
+//! `read_line` answers exactly `line_item` (`brpc_model` ScriptLineFaults), of two faults the lower kind. `push_word`,
+//! `push_number` and `push_hex` append exactly the word, unless memory is wanting. The sizes where a script gives none
+//! are in src/sizes.rt.
 #![tactic(auto)]
 
 mod calls;

@@ -1,4 +1,9 @@
 //! Where a seat stands in its program, its next step from there, and where it goes on by what that step found.
+//!
+//! A `Point` means a program (`point_program`, specs/ProgramAtPoint): its next step is the program's (`step_as`), and
+//! it goes on as the program does by the word, the message, the link or the answer that the step found. `TableStep` is
+//! a step by its family: its kind, the index of its word and the word behind it are those of the definitions
+//! (`kind_of`, `word_of` and `word_after` of `seat_programs`).
 #![tactic(auto)]
 
 pub mod asking;

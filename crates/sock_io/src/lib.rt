@@ -1,4 +1,13 @@
-//! What reaches the outside: sources, sinks, links and gates, and those in memory.
+//! What reaches the outside: sources, sinks, links and gates as traits, those in memory, and those over std.
+//!
+//! Each trait has one ghost member `state` that is its meaning (specs/SourceAndSinkState, LinkHalves, Peer), with a
+//! count of faults: a failure is answered only where the count rose in that call. `PutStep`, `TakeStep` and
+//! `SettleStep` say what each call of a link answers and changes. `Shaped::put` is the law of piece, again and fail
+//! (`FollowsShape`). A take of a half that tells what waits gives as much of that as the room takes (`FillsRoom`).
+//! Behind `settle` a link was offered what belongs to all that it took (`IsSettled`); comparing the ends of a link on
+//! one thread may make known what the other end offered, and changes nothing else (`MeetStep`, `IsFound`). `write_all`
+//! writes a text whole, or a beginning of it where the sink failed (`WrotePart`). What a real file or stream holds is
+//! trusted.
 #![tactic(auto)]
 
 mod answered;

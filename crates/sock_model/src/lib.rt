@@ -1,4 +1,10 @@
-//! The sockets as plain data: what a seat knows, where words and homes stand, and the rule that ties them. The definitions are in specs/.
+//! The sockets as plain data: what a seat knows, where words and homes stand, and the rule that ties them. The
+//! definitions are in specs/.
+//!
+//! `View` and `Mark` are what a seat knows (src/view.rt, src/marks.rt), specs/SocketTableLayout says where each word
+//! stands. The rule is `Lawful` (specs/LawfulSockets): the law of each slot (`SlotLaw`), of links and lives
+//! (`References`), of requests and heads (`Chains`), of what each link took (`Deliveries`). SlotRows and ChainRows say
+//! what each step makes of a view, PlainReferences what lives and holders are meant to be (`PlainLaw`).
 #![tactic(auto)]
 
 mod chain;

@@ -1,5 +1,8 @@
-//! `add_reference` with `release` of one id, by 1, 2 or 4 threads that share a table: so many pairs by each. It prints how many
-//! references were got.
+//! `add_reference` with `release` of one id, by 1, 2 or 4 threads that share a table: so many pairs by each. It prints
+//! how many references were got.
+//!
+//! Proved is that it is safe, and that what it calls is called as its contract asks. bench/table/run builds it and
+//! times it.
 #![tactic(auto)]
 
 mod pairs;
