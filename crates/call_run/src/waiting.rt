@@ -5,7 +5,7 @@ ghost use Rattle.sock_table.specs.NamesStoredAndFound.{Found};
 ghost use Rattle.call_client.specs.rpc_client.specs.SeatBetweenOperations.{Idle, AtRest};
 ghost use Rattle.call_run.specs.Threads.{FoundEach};
 
-use crossbeam_utils::Backoff;
+use link_pauses::Pauses;
 use sock_io::Out;
 use sock_rule::SockSeat;
 use sock_table::SockTable;
@@ -18,12 +18,12 @@ fn wait_for<O: Out, R: Wait>(rt: &R, table: &SockTable<O>, seat: &mut SockSeat<O
     ensures rest { AtRest table.now.rule.table.shared.table_id table.now.rule.plan seat.old seat.new }
     ensures found { (id : SocketId) × Found table.now.rule.plan name (Some id) seat.old.me.0 seat.new.me.0 }
 {
-    let backoff = Backoff::new();
+    let pauses = Pauses::new();
     'waits: for _ in rt.forever() {
         if let Some(_id) = table.find(seat, name) {
             return;
         }
-        backoff.snooze();
+        pauses.pause(rt);
     }
     unreachable!()
 }

@@ -78,6 +78,10 @@ module _ {C : Type 0} where
   pub now_grows : (i word : ℕ) (u v w : View C) → ((j : ℕ) (g : Note C → ℕ) → total g (notes_of j v.notes) ≤ total g (notes_of j w.notes)) → FoundNow i word u v → FoundNow i word u w
   now_grows i word u v w grows now = let a = grows i (is_saw word) in omega (arith, a, now)
 
+  -- what is found now is found
+  pub found_before : (i word : ℕ) (v w : View C) → FoundNow i word v w → Found i word w
+  found_before i word v w now = omega (arith, now)
+
   pub found_grows : (i word : ℕ) (v w : View C) → ((j : ℕ) (g : Note C → ℕ) → total g (notes_of j v.notes) ≤ total g (notes_of j w.notes)) → Found i word v → Found i word w
   found_grows i word v w grows f = let a = grows i (is_saw word) in omega arith
 

@@ -11,6 +11,7 @@ ghost use Rattle.sock_words.specs.Totals.{total};
 
 use crate::calls::{IdGone, Locking, is_out_of};
 use crate::table::{IdSeat, IdTable};
+use crossbeam_utils::Backoff;
 use sock_words::{CorrelationId, IdWord};
 use std::sync::Wait;
 
@@ -54,6 +55,7 @@ impl<C> IdTable<C> {
             return Err(IdGone { found: 0 });
         };
         let own = id.version();
+        let backoff = Backoff::new();
         'looks: for _ in rt.forever() {
             let found = self.load_id_word(seat, at);
             let word = IdWord(found);
@@ -61,6 +63,7 @@ impl<C> IdTable<C> {
                 return Err(IdGone { found });
             }
             if word.state() != IdWord::OPEN {
+                backoff.snooze();
                 continue;
             }
             if let Ok(lock) = self.try_lock(seat, at, found) {

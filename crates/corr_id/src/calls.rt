@@ -1,11 +1,11 @@
 // Ids that are made, locked and ended.
-ghost use Rattle.std.specs.Prelude.{◌≡◌, ◌+◌, ◌%◌, ◌<◌, ◌≤◌, ◌⊎◌, ℕ, [], ◌∷◌, true, false, IfOk, IfErr};
+ghost use Rattle.std.specs.Prelude.{◌≡◌, ◌+◌, ◌%◌, ◌<◌, ◌≤◌, ◌⊎◌, ℕ, [], ◌∷◌, true, false, IfOk, IfErr, IfSome, IfNone};
 ghost use Rattle.corr_core.specs.IdSlotWord.{parts};
 ghost use Rattle.corr_core.specs.IdSlotLaw.{LAST, is_made, is_advance, is_tried};
 ghost use Rattle.corr_core.specs.declared.marks.Hand.TheVariants.{Empty, Full};
-ghost use Rattle.corr_core.specs.declared.marks.Token.TheVariants.{Locked};
+ghost use Rattle.corr_core.specs.declared.marks.Token.TheVariants.{Claimed, Locked};
 ghost use Rattle.corr_core.specs.declared.marks.Note.TheVariants.{Made, Ended};
-ghost use Rattle.id_rule.specs.LawfulIdTable.{notes_of};
+ghost use Rattle.id_rule.specs.LawfulIdTable.{notes_of, tokens_in};
 ghost use Rattle.id_rule.specs.IdPlays.{LockFits};
 ghost use Rattle.corr_id.specs.IdTableSeat.{Sits, Stays};
 ghost use Rattle.corr_id.specs.LocksByAttempt.{IsKnown};
@@ -14,8 +14,12 @@ ghost use Rattle.sock_words.specs.PackedWords.{call_id, id_slot, id_first};
 ghost use Rattle.sock_words.specs.Totals.{total};
 
 use crate::table::{IdSeat, IdTable};
+use crossbeam_utils::Backoff;
 use sock_words::{CorrelationId, IdWord};
 use std::sync::Wait;
+
+// So often is looked for the end of an id before one sleeps: until a `Backoff` has yielded the processor a few times.
+const LOOKS: u32 = 10;
 
 /// There was no free slot. The content comes back.
 #[derive(Drop)]
@@ -109,6 +113,9 @@ impl<C> IdTable<C> {
         ensures full { IfErr result (λ e. (e.content ≡ content) × Quiet seat.old.me.0 seat.new.me.0 × ((i : ℕ) → i < self.now.plan.slots → 0 < total is_tried (notes_of i seat.new.me.0.notes))) }
         ensures full_now { IfErr result (λ e. (i : ℕ) → i < self.now.plan.slots → TakenNow i seat.old.me.0 seat.new.me.0) }
     {
+        if let Some(at) = self.claim_likely(seat) {
+            return Ok(self.make(seat, at, range, content));
+        }
         let slots = self.plan.slots;
         let mut at = 0;
         while at < slots {
@@ -118,6 +125,24 @@ impl<C> IdTable<C> {
             at += 1;
         }
         Err(IdFull { content })
+    }
+
+    // I1 of a slot that seemed free at a look.
+    #[inline(always)]
+    fn claim_likely(&self, seat: &mut IdSeat<C>) -> Option<u16>
+        requires seat { Sits self.now.table.shared.table_id seat.old }
+        ensures seat { Stays seat.old seat.new }
+        ensures claimed { IfSome result (λ at. (at < self.now.plan.slots) × Became at seat.old.me.0 seat.new.me.0 (Claimed 0 Empty ∷ []) [] × (tokens_in at seat.old.me.0 ≡ [])) }
+        ensures missed { IfNone result (Quiet seat.old.me.0 seat.new.me.0) }
+    {
+        let Some(at) = self.likely_slot() else {
+            return None;
+        };
+        if self.claim_id(seat, at) != 0 {
+            return None;
+        }
+        self.look_behind(at);
+        Some(at)
     }
 
     // K2 once the id is locked.
@@ -201,11 +226,32 @@ impl<C> IdTable<C> {
         if first <= 67_108_848 {
             self.free_id(seat, slot);
         }
+        self.bell(slot).ring();
         content
     }
 
+    // A few looks for whether the id of this slot and first version has ended, with pauses that grow.
+    fn ends_soon(&self, seat: &mut IdSeat<C>, at: u16, own: u32) -> bool
+        requires seat { Sits self.now.table.shared.table_id seat.old }
+        requires slot { at < self.now.table.shared.key.slots }
+        ensures seat { Stays seat.old seat.new }
+        ensures quiet { Quiet seat.old.me.0 seat.new.me.0 }
+        ensures gone { result ≡ true → (word : ℕ) × FoundNow at word seat.old.me.0 seat.new.me.0 × LacksId (parts word) own }
+        ensures ended { result ≡ true → IsKnown at own seat.old.me.0 → (word : ℕ) × FoundNow at word seat.old.me.0 seat.new.me.0 × (own < (parts word).first) }
+    {
+        let backoff = Backoff::new();
+        'looks: for _ in 0..LOOKS {
+            if lacks_id(IdWord(self.load_id_word(seat, at)), own) {
+                return true;
+            }
+            backoff.snooze();
+        }
+        false
+    }
+
     /// Waits until the id has ended, or finds that it never was (`bthread_id_join`). Where the seat knows of the id that it was
-    /// made, or advanced, it has ended then: this call found a later range in its slot.
+    /// made, or advanced, it has ended then: this call found a later range in its slot. It looks a few times, and then sleeps
+    /// until an id ends.
     pub fn join<R: Wait>(&self, rt: &R, seat: &mut IdSeat<C>, id: u64)
         requires seat { Sits self.now.table.shared.table_id seat.old }
         ensures seat { Stays seat.old seat.new }
@@ -219,10 +265,18 @@ impl<C> IdTable<C> {
             return;
         };
         let own = id.version();
+        if self.ends_soon(seat, at, own) {
+            return;
+        }
+        let bell = self.bell(at);
+        bell.come();
         'looks: for _ in rt.forever() {
+            let heard = bell.heard();
             if lacks_id(IdWord(self.load_id_word(seat, at)), own) {
+                bell.go();
                 return;
             }
+            bell.sleep(rt, heard);
         }
     }
 }

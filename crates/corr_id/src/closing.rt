@@ -93,7 +93,12 @@ impl<C: Drop> IdTable<C> {
             return Err(IdNotClosed { table: self, seats });
         };
         let seat = join_all(&self, seats);
-        let IdTable { table, plan: _ } = self;
+        let IdTable {
+            table,
+            plan: _,
+            next: _,
+            bells: _,
+        } = self;
         let mut closed = table.close_with(seat);
         read_words(&closed, slots, &mut words);
         empty_homes(&mut closed);

@@ -13,9 +13,11 @@
 #![tactic(auto)]
 
 mod attempts;
+mod bells;
 mod calls;
 mod closing;
 mod kinds;
+mod likely;
 mod opening;
 mod plays;
 mod posts;

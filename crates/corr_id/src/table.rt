@@ -4,10 +4,16 @@ ghost use Rattle.corr_core.specs.IdTableLayout.{all_words};
 ghost use Rattle.id_rule.specs.LawfulIdTable.{first_view, Unused, joined, lighter, newcomer};
 ghost use Rattle.corr_id.specs.IdTableSeat.{IsFree};
 
+use crate::bells::Bell;
 use crate::plays::{Rule, SeatOut, TakeIn};
 use atomic_table::{Seat, Table};
 use corr_core::{Plan, View};
 use std::alloc::{AllocError, Global};
+use std::array::from_fn;
+use std::sync::atomic::AtomicU64;
+
+/// How many bells a table has.
+pub const BELLS: usize = 32;
 
 /// A seat of a table of ids. A thread makes its steps with it.
 pub type IdSeat<C> = Seat<Option<C>, View<C>>;
@@ -18,6 +24,9 @@ pub type IdSeat<C> = Seat<Option<C>, View<C>>;
 pub struct IdTable<C> {
     pub table: Table<Option<C>, View<C>, Plan, Rule, Global>,
     pub plan: Plan,
+    // Where a slot is looked for first, and who waits for the end of an id: each of every 32nd slot.
+    pub(crate) next: AtomicU64,
+    pub(crate) bells: [Bell; BELLS],
     pub ghost sized: { table.shared.table_id.words ≡ all_words table.shared.key },
     pub ghost planned: { table.shared.key ≡ plan },
 }
@@ -35,7 +44,13 @@ impl<C> IdTable<C> {
     {
         let count = plan.slots as usize;
         let (table, seat) = Table::vacant(alloc, words, count, &plan)?;
-        Ok((IdTable { table, plan }, seat))
+        let ids = IdTable {
+            table,
+            plan,
+            next: AtomicU64::new(0),
+            bells: from_fn(|_| Bell::new()),
+        };
+        Ok((ids, seat))
     }
 
     /// Joins two seats. The seat `from` has no lock; what it has noted is added to what `seat` has.
@@ -57,5 +72,11 @@ impl<C> IdTable<C> {
         ensures view { (seat.new.me ≡ (lighter seat.old.me.0, seat.old.me.1)) × (result.me ≡ (newcomer, [])) }
     {
         self.table.shared.split_seat::<SeatOut>(seat)
+    }
+
+    // The bell of this slot.
+    #[inline(always)]
+    pub(crate) fn bell(&self, at: u16) -> &Bell {
+        &self.bells[at as usize % BELLS]
     }
 }

@@ -77,6 +77,21 @@ rest_sizes-rest_sizes a b (s ∷ ss) =
               ]
         ]
 
+-- a front has no more references
+pub front_sizes-fewer : (n : ℕ) (ss : List ℕ) → length (front_sizes n ss) ≤ length ss
+front_sizes-fewer n [] = omega arith
+front_sizes-fewer n (s ∷ ss) =
+    elim (cases_lt 0 n) [
+      | inr none ↦
+          let z : n ≡ 0 = omega arith in
+          omega (arith, ap (λ (m : ℕ). length (front_sizes m (s ∷ ss))) z)
+      | inl some ↦
+          elim (cases_lt n s) [
+            | inl less ↦ omega (arith, ap length (front_sizes-less n s ss some less))
+            | inr more ↦ omega (arith, ap length (front_sizes-more n s ss some more), front_sizes-fewer (n - s) ss)
+          ]
+    ]
+
 -- the front of a longer front
 pub front_sizes-front_sizes : (a b : ℕ) (ss : List ℕ) → a ≤ b → front_sizes a (front_sizes b ss) ≡ front_sizes a ss
 front_sizes-front_sizes a b [] le = refl

@@ -10,6 +10,7 @@ mod append;
 mod copy;
 mod cut;
 mod ends;
+mod join;
 
 // More references than these have no addresses: reserving more is want of memory.
 const MOST_REFS: usize = 1_125_899_906_842_624;

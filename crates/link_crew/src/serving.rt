@@ -2,7 +2,7 @@
 ghost use Rattle.std.specs.Result.{is_err};
 ghost use Rattle.link_crew.specs.ServingOtherEnd.{ServedToEnd};
 
-use crossbeam_utils::Backoff;
+use link_pauses::Pauses;
 use sock_io::{NoMemory, Peer, Served};
 use std::sync::Wait;
 
@@ -11,12 +11,12 @@ use std::sync::Wait;
 pub fn serve_to_end<P: Peer, R: Wait>(rt: &R, peer: &mut P) -> Result<(), NoMemory>
     ensures { ServedToEnd (is_err result) (P.state peer.old) (P.state peer.new) }
 {
-    let backoff = Backoff::new();
+    let pauses = Pauses::new();
     let mut short = false;
     'serves: for _ in rt.forever() {
         match peer.serve() {
-            Ok(Served::Moved) => backoff.reset(),
-            Ok(Served::Waiting) => backoff.snooze(),
+            Ok(Served::Moved) => pauses.reset(),
+            Ok(Served::Waiting) => pauses.pause(rt),
             Ok(Served::Done) => return if short { Err(NoMemory) } else { Ok(()) },
             Err(_) => short = true,
         }

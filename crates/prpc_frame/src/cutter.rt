@@ -78,7 +78,7 @@ impl Cutter {
         if self.fault.is_some() {
             return Ok(());
         }
-        self.held.append_bytes(pool, piece)
+        self.held.append_joined(pool, piece)
     }
 
     /// The next frame, or `None` while it isn't whole.

@@ -3,7 +3,7 @@ ghost use Rattle.std.specs.Prelude.{◌≡◌, ◌<◌};
 ghost use Rattle.rpc_client.specs.SeatBetweenOperations.{Idle, AtRest, StaysSeen, SameRefs};
 ghost use Rattle.rpc_reader.specs.ReaderSocketFailing.{OpenedBy};
 
-use crossbeam_utils::Backoff;
+use link_pauses::Pauses;
 use sock_io::Out;
 use sock_rule::SockSeat;
 use sock_table::{Noted, SockTable};
@@ -25,12 +25,12 @@ pub fn wait_open<O: Out, R: Wait>(
     ensures lists { seat.new.me.0.lists ≡ seat.old.me.0.lists }
     ensures seen { StaysSeen seat.old.me.0 seat.new.me.0 }
 {
-    let backoff = Backoff::new();
+    let pauses = Pauses::new();
     'waits: for _ in rt.forever() {
         match table.noted(seat, operation) {
             Noted::Id(id) => return Some(id),
             Noted::Nothing => return None,
-            Noted::NotYet => backoff.snooze(),
+            Noted::NotYet => pauses.pause(rt),
         }
     }
     unreachable!()

@@ -9,7 +9,7 @@ use crate::books::AnswerSeat;
 use crate::cutting::{Stop, meet_all};
 use call_table::Call;
 use corr_id::IdTable;
-use crossbeam_utils::Backoff;
+use link_pauses::Pauses;
 use prpc_frame::{BlockPool, Cutter};
 use sock_io::{In, Take};
 use sock_words::{EEOF, EINTERNAL, ERESPONSE};
@@ -115,7 +115,7 @@ fn read_once<I: In, R: Wait>(
     inn: &mut I,
     room: &mut [u8],
     ending: bool,
-    backoff: &Backoff,
+    pauses: &Pauses,
 ) -> Option<How>
     requires seat { IsOpen ids.now.table.shared.table_id calls.old.seat }
     requires waits { judged (held_by intake.old) ≡ NoneYet }
@@ -125,12 +125,15 @@ fn read_once<I: In, R: Wait>(
     ensures read { ReadOnce ids.now.plan.slots ending result (I.state inn.old) (I.state inn.new) intake.old intake.new (books calls.old) (books calls.new) }
 {
     match inn.take(room) {
-        Take::Took(count) => take_in(rt, ids, calls, intake, &room[..count]),
+        Take::Took(count) => {
+            pauses.reset();
+            take_in(rt, ids, calls, intake, &room[..count])
+        }
         Take::Empty => {
             if ending {
                 Some(How::Empty)
             } else {
-                backoff.snooze();
+                pauses.pause(rt);
                 None
             }
         }
@@ -164,12 +167,12 @@ pub fn read_all<I: In, R: Wait>(
     ensures rest { Rests calls.old.seat calls.new.seat }
     ensures read { ReadBy ids.now.plan.slots ending result (I.state inn.old) (I.state inn.new) intake.new.total (books calls.old) (books calls.new) }
 {
-    let backoff = Backoff::new();
+    let pauses = Pauses::new();
     let mut room = [0u8; 4096];
     'reads: for _ in rt.forever() {
         let count = room_behind(intake.total);
         let part = &mut room[..count];
-        if let Some(how) = read_once(rt, ids, calls, intake, inn, part, ending, &backoff) {
+        if let Some(how) = read_once(rt, ids, calls, intake, inn, part, ending, &pauses) {
             return how;
         }
     }

@@ -3,7 +3,7 @@ ghost use Rattle.std.specs.Prelude.{◌≡◌, ◌+◌, ◌<◌, ◌≤◌, true
 ghost use Rattle.rpc_reader.specs.Throwing.{ThrewOnce, ThrewAway};
 
 use crate::reading::{LIMIT, room_behind};
-use crossbeam_utils::Backoff;
+use link_pauses::Pauses;
 use sock_io::{In, Take};
 use std::sync::Wait;
 
@@ -16,18 +16,20 @@ fn is_full(total: u32) -> bool
 }
 
 // One take whose bytes are thrown away: whether it was the last.
-fn throw_once<I: In>(
+fn throw_once<I: In, R: Wait>(
+    rt: &R,
     inn: &mut I,
     total: &mut u32,
     room: &mut [u8],
     ending: bool,
-    backoff: &Backoff,
+    pauses: &Pauses,
 ) -> bool
     requires { (0 < length room.old) × (total.old + length room.old ≤ 16777216) }
     ensures { ThrewOnce ending result (I.state inn.old) (I.state inn.new) total.old total.new }
 {
     match inn.take(room) {
         Take::Took(count) => {
+            pauses.reset();
             *total += count as u32;
             is_full(*total)
         }
@@ -35,7 +37,7 @@ fn throw_once<I: In>(
             if ending {
                 true
             } else {
-                backoff.snooze();
+                pauses.pause(rt);
                 false
             }
         }
@@ -54,12 +56,12 @@ pub fn throw_all<I: In, R: Wait>(rt: &R, inn: &mut I, total: u32, ending: bool)
         return;
     }
     let mut total = total;
-    let backoff = Backoff::new();
+    let pauses = Pauses::new();
     let mut room = [0u8; 4096];
     'throws: for _ in rt.forever() {
         let count = room_behind(total);
         let part = &mut room[..count];
-        if throw_once(inn, &mut total, part, ending, &backoff) {
+        if throw_once(rt, inn, &mut total, part, ending, &pauses) {
             return;
         }
     }

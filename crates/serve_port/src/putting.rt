@@ -3,8 +3,8 @@ ghost use Rattle.std.specs.Prelude.{◌≡◌, false, OnOk, OnErr};
 ghost use Rattle.sock_io.specs.FaultCauses.{Rose};
 ghost use Rattle.serve_port.specs.ServiceSteps.{Puts};
 
-use crossbeam_utils::Backoff;
 use io_buf::{BlockPool, IoBuf};
+use link_pauses::Pauses;
 use sock_io::{Failed, Out, Put, Ready};
 use std::sync::Wait;
 
@@ -16,11 +16,11 @@ fn wait_ready<R: Wait, O: Out>(rt: &R, out: &mut O) -> Result<(), Failed>
     ensures now { OnOk result ((O.state out.new).faults ≡ (O.state out.old).faults) }
     ensures failed { OnErr result (Rose (O.state out.old).faults (O.state out.new).faults) }
 {
-    let backoff = Backoff::new();
+    let pauses = Pauses::new();
     'asks: for _ in rt.forever() {
         match out.ready() {
             Ready::Now => return Ok(()),
-            Ready::NotYet => backoff.snooze(),
+            Ready::NotYet => pauses.pause(rt),
             Ready::Failed => return Err(Failed),
         }
     }

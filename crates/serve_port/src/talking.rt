@@ -6,8 +6,8 @@ ghost use Rattle.serve_port.specs.ServingConnections.{Serves};
 
 use crate::answering::answer;
 use crate::service::{Service, ServiceEnd};
-use crossbeam_utils::Backoff;
 use io_buf::BlockPool;
+use link_pauses::Pauses;
 use rpc_server::Conn;
 use sock_io::{In, Out, Take};
 use std::alloc::Global;
@@ -34,7 +34,7 @@ fn talk<R: Wait, O: Out, I: In>(
 {
     let mut room = [0u8; ROOM_BYTES];
     let mut left = MOST_BYTES;
-    let backoff = Backoff::new();
+    let pauses = Pauses::new();
     'takes: for _ in rt.forever() {
         if left == 0 {
             return service(ServiceEnd::AtLimit, conn);
@@ -43,12 +43,13 @@ fn talk<R: Wait, O: Out, I: In>(
         match inn.take(&mut room[..most]) {
             Take::Took(count) => {
                 left -= count;
+                pauses.reset();
                 if let Err(end) = answer(rt, alloc, pool, conn, &room[..count], out) {
                     return service(end, conn);
                 }
             }
             // `Closed` is for a half that was finished, which this one isn't yet
-            Take::Empty | Take::Closed => backoff.snooze(),
+            Take::Empty | Take::Closed => pauses.pause(rt),
             Take::End => return service(ServiceEnd::AtEnd, conn),
             Take::Failed => return service(ServiceEnd::TakeFailed, conn),
         }

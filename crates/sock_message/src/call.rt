@@ -4,16 +4,17 @@ ghost use Rattle.sock_message.specs.InsideMessages.{LiesInBlocks};
 use io_buf::{BlockPool, IoBuf, NoMemory};
 use std::alloc::Global;
 use std::marker::Model;
+use std::sync::Arc;
 
 /// A call, as its client asks for it (bRPC's bthread_id.md). It is handed from thread to thread with the lock of its id, so
-/// all but two of its numbers lie in memory of their own. Contracts see what is asked.
+/// all but two of its numbers lie in memory of their own, over which an equal call may be. Contracts see what is asked.
 #[derive(Drop)]
 pub struct Call {
     /// The number of its operation in the script.
     pub operation: u16,
     /// How many versions its id has: one for the whole call and one for each attempt, 2 to 8.
     pub range: u8,
-    body: Box<Body>,
+    body: Arc<Body, Global>,
 }
 
 // What is asked of whom.
@@ -30,6 +31,7 @@ struct Body {
 }
 
 impl Model for Call {
+    ghost use Rattle.std.specs.Arc.{arc_value};
     ghost use Rattle.sock_message.specs.Asked.{Asked};
     ghost use Rattle.sock_message.specs.InsideMessages.{KeepsLimits, LiesInBlocks};
 
@@ -37,15 +39,15 @@ impl Model for Call {
 
     ghost view = { λ c. record {
       operation = c.operation;
-      names = c.body.value.names.items;
-      service = c.body.value.service.items;
-      method = c.body.value.method.items;
-      payload = c.body.value.payload.items;
-      attachment = c.body.value.attachment.items;
+      names = (arc_value c.body).names.items;
+      service = (arc_value c.body).service.items;
+      method = (arc_value c.body).method.items;
+      payload = (arc_value c.body).payload.items;
+      attachment = (arc_value c.body).attachment.items;
       range = c.range;
     } };
 
-    ghost invariant = { λ c. KeepsLimits (record { operation = c.operation; names = c.body.value.names.items; service = c.body.value.service.items; method = c.body.value.method.items; payload = c.body.value.payload.items; attachment = c.body.value.attachment.items; range = c.range }) × LiesInBlocks c.body.value.payload × LiesInBlocks c.body.value.attachment };
+    ghost invariant = { λ c. KeepsLimits (record { operation = c.operation; names = (arc_value c.body).names.items; service = (arc_value c.body).service.items; method = (arc_value c.body).method.items; payload = (arc_value c.body).payload.items; attachment = (arc_value c.body).attachment.items; range = c.range }) × LiesInBlocks (arc_value c.body).payload × LiesInBlocks (arc_value c.body).attachment };
 }
 
 impl Call {
@@ -77,26 +79,19 @@ impl Call {
         Ok(Call {
             operation,
             range,
-            body: Box::new(alloc, body)?,
+            body: Arc::new(alloc, body)?,
         })
     }
 
-    /// An equal call. Its payload and its attachment are over the same blocks, and are not copied.
+    /// An equal call, over the same memory.
     pub fn share(&self) -> Result<Call, NoMemory>
         ensures { IfOk result (λ c. c ≡ self.now) }
     {
-        let alloc = *self.body.names.allocator();
-        let body = Body {
-            names: Vec::from_slice(alloc, &self.body.names)?,
-            service: Vec::from_slice(alloc, &self.body.service)?,
-            method: Vec::from_slice(alloc, &self.body.method)?,
-            payload: self.body.payload.share()?,
-            attachment: self.body.attachment.share()?,
-        };
+        let body = Arc::try_clone(&self.body)?;
         Ok(Call {
             operation: self.operation,
             range: self.range,
-            body: Box::new(alloc, body)?,
+            body,
         })
     }
 

@@ -10,6 +10,7 @@ ghost use Rattle.write_chain.specs.KeepingOnWriting.{IsCode, WentBy, WentWriting
 use crate::hold::{Once, Tried};
 use crate::right::{Doing, HeldChain, InHand, LinkInHand, Undelivered, Walk, WriteRight};
 use crossbeam_utils::Backoff;
+use link_pauses::Pauses;
 use sock_io::{Out, Ready};
 use sock_rule::SockSeat;
 use sock_table::{SockRef, SockTable};
@@ -83,7 +84,7 @@ impl<O: Out> HeldChain<'_, O> {
 
     /// The link is asked whether it takes more.
     #[inline(always)]
-    pub fn ask(&self, seat: &mut SockSeat<O>, mut hand: InHand<O>, backoff: &Backoff) -> Doing<O>
+    pub fn ask(&self, seat: &mut SockSeat<O>, mut hand: InHand<O>) -> Doing<O>
         requires seat { IsSeat self.now.table.now.rule.table.shared.table_id self.now.table.now.rule.plan seat.old }
         requires may { HasPart self.now.table.now.rule.plan self.now.table.now.rule.ways.list self.now.sock.id.0 self.now.last.0 hand seat.old.me }
         ensures seat { IsSeat self.now.table.now.rule.table.shared.table_id self.now.table.now.rule.plan seat.new }
@@ -94,10 +95,7 @@ impl<O: Out> HeldChain<'_, O> {
     {
         match hand.ready() {
             Ready::Now => Doing::Puts(hand),
-            Ready::NotYet => {
-                backoff.snooze();
-                Doing::Waits(hand)
-            }
+            Ready::NotYet => Doing::Waits(hand),
             Ready::Failed => {
                 self.fail_link(seat, &hand);
                 Doing::Puts(hand)
@@ -207,7 +205,7 @@ impl<O: Out> HeldChain<'_, O> {
             Doing::First => unreachable!(),
             Doing::Puts(hand) => self.put_or_drop(seat, hand),
             Doing::Waits(hand) => {
-                let doing = self.ask(seat, hand, backoff);
+                let doing = self.ask(seat, hand);
                 Went::Further(self.with(doing))
             }
             Doing::Next(link, now) => {
@@ -231,6 +229,16 @@ impl<O: Out> HeldChain<'_, O> {
     }
 }
 
+/// A pause where the link is asked next.
+#[inline(always)]
+fn pause_at<O: Out, R: Wait>(rt: &R, right: &WriteRight<O>, pauses: &Pauses) {
+    if let Doing::Waits(_) = &right.doing {
+        pauses.pause(rt);
+    } else {
+        pauses.reset();
+    }
+}
+
 /// Writes until the head is empty, and takes what came meanwhile in the order in which it was accepted. Before each put, and
 /// before each message that is dropped, it looks whether the socket lives. It waits for a link that takes nothing, and for a
 /// writer that hasn't connected its request yet. After each dropped message it answers, and is called again. Where the seat
@@ -250,6 +258,7 @@ pub fn keep_write<O: Out, R: Wait>(
     ensures wrote { KeptWriting table.now.rule.plan right.sock result seat.old.me.0 seat.new.me.0 }
 {
     let backoff = Backoff::new();
+    let pauses = Pauses::new();
     'goes: for _ in rt.forever() {
         let WriteRight { sock, last, doing } = right;
         let chain = HeldChain { table, sock, last };
@@ -258,7 +267,10 @@ pub fn keep_write<O: Out, R: Wait>(
             Went::Dropped(right, msg, code) => {
                 return Kept::Dropped { right, msg, code };
             }
-            Went::Further(next) => right = next,
+            Went::Further(next) => {
+                pause_at(rt, &next, &pauses);
+                right = next;
+            }
         }
     }
     unreachable!()

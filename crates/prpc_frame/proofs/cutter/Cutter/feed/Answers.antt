@@ -20,17 +20,17 @@ returns-then-is_some-clause-stream c = λ (at : ℕ) (more : List ℕ).
     fed at more old c.args.piece.now old (inr (told_faulty c.self.inside.fault c.self.inside.held.items c.self.inside.faulty.list c.args.self.now c.self.view_is c.self.invariant told, refl))
 
 pub invariant_of-self : goal.invariant_of-self
-invariant_of-self c = (still_unnoted c.self.inside.fault c.append_bytes.new.self.items c.self.inside.faulty.list (sym c.is_some.ensures ∙ c.if-is_some.false)).0
+invariant_of-self c = (still_unnoted c.self.inside.fault c.append_joined.new.self.items c.self.inside.faulty.list (sym c.is_some.ensures ∙ c.if-is_some.false)).0
 
 pub returns-clause-ok : goal.returns-clause-ok
 returns-clause-ok c =
-    fed_more c.append_bytes.result c.self.inside.fault c.self.inside.held.items c.self.inside.faulty.list c.append_bytes.new.self.items c.args.piece.now c.args.self.now (sym c.is_some.ensures ∙ c.if-is_some.false) c.self.view_is
-    c.append_bytes.ensures.items
+    fed_more c.append_joined.result c.self.inside.fault c.self.inside.held.items c.self.inside.faulty.list c.append_joined.new.self.items c.args.piece.now c.args.self.now (sym c.is_some.ensures ∙ c.if-is_some.false) c.self.view_is
+    c.append_joined.ensures.items
 
 pub returns-clause-kept : goal.returns-clause-kept
 returns-clause-kept c =
-    appended c.append_bytes.result c.self.inside.fault c.self.inside.held.items c.self.inside.faulty.list c.append_bytes.new.self.items c.args.piece.now c.args.self.now (sym c.is_some.ensures ∙ c.if-is_some.false) c.self.view_is
-    c.append_bytes.ensures.items
+    appended c.append_joined.result c.self.inside.fault c.self.inside.held.items c.self.inside.faulty.list c.append_joined.new.self.items c.args.piece.now c.args.self.now (sym c.is_some.ensures ∙ c.if-is_some.false) c.self.view_is
+    c.append_joined.ensures.items
 
 pub returns-clause-told : goal.returns-clause-told
 returns-clause-told c = λ told.
@@ -40,9 +40,9 @@ returns-clause-told c = λ told.
 
 pub returns-clause-stream : goal.returns-clause-stream
 returns-clause-stream c =
-    fed_on c.append_bytes.result c.args.self.now.bytes c.args.piece.now _
-    (fed_more c.append_bytes.result c.self.inside.fault c.self.inside.held.items c.self.inside.faulty.list c.append_bytes.new.self.items c.args.piece.now c.args.self.now (sym c.is_some.ensures ∙ c.if-is_some.false) c.self.view_is
-    c.append_bytes.ensures.items)
+    fed_on c.append_joined.result c.args.self.now.bytes c.args.piece.now _
+    (fed_more c.append_joined.result c.self.inside.fault c.self.inside.held.items c.self.inside.faulty.list c.append_joined.new.self.items c.args.piece.now c.args.self.now (sym c.is_some.ensures ∙ c.if-is_some.false) c.self.view_is
+    c.append_joined.ensures.items)
 
 pub returns-clause-err : goal.returns-clause-err
-returns-clause-err c = unchanged c.append_bytes.result c.self.inside.fault c.self.inside.held c.append_bytes.new.self c.self.inside.faulty.list c.args.self.now c.self.view_is c.append_bytes.ensures.err
+returns-clause-err c = unchanged c.append_joined.result c.self.inside.fault c.self.inside.held c.append_joined.new.self c.self.inside.faulty.list c.args.self.now c.self.view_is c.append_joined.ensures.err
