@@ -24,7 +24,7 @@ pub struct SlowOut {
 impl SlowOut {
     /// A half that took nothing yet, with room for what comes.
     pub fn new(room: Vec<u8>, turns: u64) -> Self
-        ensures { ⟦<SlowOut as Out>⟧.state result ≡ record { link = 0; took = None; put_bytes = None; way = []; faults = 0; finished = false; clear = true; always_ready = true; again = false; steady = true; whole = false; answers = None } }
+        ensures { ⟦<SlowOut as Out>⟧.state result ≡ record { link = 0; took = None; put_bytes = None; way = []; faults = 0; finished = false; clear = true; always_ready = true; again = false; steady = true; whole = false; pacing = None; answers = None } }
     {
         SlowOut {
             bytes: room,
@@ -36,7 +36,7 @@ impl SlowOut {
 }
 
 impl Out for SlowOut {
-    ghost state = { λ o. record { link = 0; took = None; put_bytes = None; way = []; faults = o.faults; finished = o.finished; clear = true; always_ready = true; again = false; steady = true; whole = false; answers = None } };
+    ghost state = { λ o. record { link = 0; took = None; put_bytes = None; way = []; faults = o.faults; finished = o.finished; clear = true; always_ready = true; again = false; steady = true; whole = false; pacing = None; answers = None } };
 
     fn put(&mut self, piece: &[u8]) -> Put {
         if self.finished {

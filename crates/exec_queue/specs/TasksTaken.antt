@@ -12,4 +12,4 @@ pub record ExecState : Type 0 where
   pub finished : Bool
 
 abbrev pub exec_out : ExecState → OutState
-exec_out s = record { link = 0; took = Some s.taken; put_bytes = Some s.taken; way = []; faults = s.faults; finished = s.finished; clear = true; always_ready = true; again = false; steady = true; whole = false; answers = None }
+exec_out s = record { link = 0; took = Some s.taken; put_bytes = Some s.taken; way = []; faults = s.faults; finished = s.finished; clear = true; always_ready = true; again = false; steady = true; whole = false; pacing = None; answers = None }

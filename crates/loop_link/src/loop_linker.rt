@@ -58,6 +58,8 @@ impl Linker for LoopLinker {
 
     type P = NoPeer;
 
+    ghost goes_by_shape = { λ _. true };
+
     fn open(&mut self, spec: &LinkSpec) -> Result<Link, OpenFault>
         requires { MayOpen self.old.asked spec.now }
         ensures out { IfOk result (λ ends. ends.out ≡ new_half (length self.old.asked) spec.now.shape) }

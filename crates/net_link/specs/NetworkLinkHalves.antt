@@ -11,7 +11,7 @@ pub record TcpOutState : Type 0 where
 
 -- it keeps none of its bytes, and so tells none; it waits inside a put, and never asks to be called again
 abbrev pub tcp_out : TcpOutState → OutState
-tcp_out o = record { link = o.link; took = None; put_bytes = None; way = []; faults = o.faults; finished = o.finished; clear = true; always_ready = true; again = false; steady = true; whole = false; answers = None }
+tcp_out o = record { link = o.link; took = None; put_bytes = None; way = []; faults = o.faults; finished = o.finished; clear = true; always_ready = true; again = false; steady = true; whole = false; pacing = None; answers = None }
 
 -- a half that took nothing so far
 abbrev pub new_out : ℕ → TcpOutState

@@ -54,7 +54,7 @@ pub record RingOutState : Type 0 where
 
 -- it keeps none of its bytes, and so tells none
 abbrev pub ring_out : RingOutState → OutState
-ring_out o = record { link = o.link; took = None; put_bytes = Some o.writer.bytes; way = way_of o.writer.ring; faults = 0; finished = has_ended o.writer.ending; clear = nat_lt 0 o.writer.places; always_ready = false; again = o.again; steady = true; whole = false; answers = None }
+ring_out o = record { link = o.link; took = None; put_bytes = Some o.writer.bytes; way = way_of o.writer.ring; faults = 0; finished = has_ended o.writer.ending; clear = nat_lt 0 o.writer.places; always_ready = false; again = o.again; steady = true; whole = false; pacing = None; answers = None }
 
 -- the same as the wrapper tells it that keeps what was put
 abbrev pub told_out : RingOutState → OutState

@@ -2,6 +2,7 @@ pub mod LinkAnswers
 pub mod Heard
 pub mod OfferedAtTakes
 pub mod OfferedRuns
+pub mod ShapedPuts
 pub mod CoreListSizes
 pub mod Unserved
 pub mod RunIsOver

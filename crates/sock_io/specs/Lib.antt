@@ -7,6 +7,7 @@ pub mod MemoryLinker
 pub mod MeetingOnOneThread
 pub mod LinksInMemory
 pub mod Peer
+pub mod PutAnswers
 pub mod ShapeOfPuts
 pub mod SourceAndSinkState
 pub mod PartWrittenToSink

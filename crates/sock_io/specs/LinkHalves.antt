@@ -15,6 +15,7 @@ use Rattle.brpc_model.specs.Reply.{reply_frames}
 use Rattle.brpc_model.specs.ServedForTakenBytes.{first_of}
 use Rattle.brpc_model.specs.ReturnedLink.{LinkEnd, HalfAnswer, PutTook, PutAgain, PutFailed, ReadyNow, ReadyNotYet, ReadyFailed, TakeAnswer, TakeTook, TakeEmpty, TakeEnd, TakeClosed, TakeFailed}
 use Rattle.sock_io.specs.FaultCauses.{Rose}
+use Rattle.sock_io.specs.PutAnswers.{Pacing, paced_on, next_answer}
 
 -- a writing half
 pub record OutState : Type 0 where
@@ -40,6 +41,8 @@ pub record OutState : Type 0 where
   pub steady : Bool
   -- whether it takes each piece whole until it is finished
   pub whole : Bool
+  -- how its puts go, where it answers each as its shape says
+  pub pacing : Option Pacing
   -- all that it answered, in order, where it tells that
   pub answers : Option (List HalfAnswer)
 
@@ -144,6 +147,10 @@ pub record SameKind (old new : OutState) : Type 0 where
   pub steady : new.steady ≡ old.steady
   pub whole : new.whole ≡ old.whole
 
+-- what it answers to a put is what its shape says for the number of the put, the bytes that it took so far, and this piece
+abbrev pub AnswersAsShaped : OutState → List ℕ → Put → Type 0
+AnswersAsShaped out piece result = (p : Pacing) (took : List ℕ) → out.pacing ≡ Some p → out.took ≡ Some took → out.finished ≡ false → result ≡ next_answer p took piece
+
 pub record PutStep (old new : OutState) (piece : List ℕ) (result : Put) : Type 0 where
   pub count : IsPutCount piece result
   pub took : new.took ≡ append_known old.took (taken_of piece result)
@@ -155,6 +162,8 @@ pub record PutStep (old new : OutState) (piece : List ℕ) (result : Put) : Type
   pub again : result ≡ put.Again → old.clear ≡ false
   pub last : (result ≡ put.Again → new.again ≡ true) × (result ≢ put.Again → new.again ≡ false)
   pub whole : old.whole ≡ true → old.finished ≡ false → result ≡ put.Took (length piece)
+  pub shaped : AnswersAsShaped old piece result
+  pub pacing : new.pacing ≡ option_map (paced_on result) old.pacing
   pub failed : result ≡ put.Failed → old.finished ≡ false → Rose old.faults new.faults
   pub kept : result ≢ put.Failed → new.faults ≡ old.faults
   -- after its end it fails, and no count rises
@@ -168,6 +177,7 @@ pub record ReadyStep (old new : OutState) (result : Ready) : Type 0 where
   pub kind : SameKind old new
   pub finished : new.finished ≡ old.finished
   pub again : new.again ≡ old.again
+  pub pacing : new.pacing ≡ old.pacing
   -- after a put that answered `Again`, `Now` says that the next put doesn't
   pub now : result ≡ ready.Now → old.again ≡ true → new.clear ≡ true
   pub steady : result ≡ ready.Now → old.steady ≡ true → new.clear ≡ true
@@ -184,6 +194,7 @@ pub record FinishStep (old new : OutState) : Type 0 where
   pub answers : new.answers ≡ old.answers
   pub same : SameOut old new
   pub kind : SameKind old new
+  pub pacing : new.pacing ≡ old.pacing
   pub faults : new.faults ≡ old.faults
   pub finished : new.finished ≡ true
 
@@ -252,6 +263,10 @@ pub record SettleStep (out : OutState) (old new : InState) : Type 0 where
 abbrev pub IsSettled : OutState → InState → InState → Type 0
 IsSettled out old new = (o : Offer) (took gave : List ℕ) → old.offer ≡ Some o → out.took ≡ Some took → old.gave_bytes ≡ Some gave → IsServed took out.finished gave o
     → (o' : Offer) × (new.offer ≡ Some o') × IsServed took out.finished gave o' × (offered_by o' took ≡ offered_by o' o'.fed) × (out.finished ≡ true → o'.ending ≢ ending.Open)
+
+-- no put was made so far, and they go by the shape that was asked for
+abbrev pub new_pacing : LinkSpec → Pacing
+new_pacing spec = record { shape = spec.shape; puts = 0; paused = false }
 
 -- halves that took, gave and answered nothing so far
 pub record IsUnused (out : OutState) (inn : InState) : Type 0 where

@@ -25,7 +25,7 @@ pub record NotedLinksState : Type 0 where
 
 -- a writing half in memory that was not used yet
 abbrev pub new_mem_out : ℕ → OutState
-new_mem_out link = record { link = link; took = None; put_bytes = None; way = []; faults = 0; finished = false; clear = true; always_ready = true; again = false; steady = true; whole = true; answers = None }
+new_mem_out link = record { link = link; took = None; put_bytes = None; way = []; faults = 0; finished = false; clear = true; always_ready = true; again = false; steady = true; whole = true; pacing = None; answers = None }
 
 -- the shape that is asked for: the linker's own failing put stands in where none is
 abbrev pub shape_of : LinkSpec → (fail_put : ℕ) → Shape

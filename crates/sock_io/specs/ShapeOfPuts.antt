@@ -1,42 +1,10 @@
--- How the puts of a link behave, by their numbers.
-use Rattle.std.specs.Prelude.{ℕ, ◌≡◌, ◌%◌, ◌<◌, ◌≤◌, ◌==◌, ◌&&◌, ◌||◌, nat_lt, nat_le, min, not, Bool, true, false, List, length, Some, if◌then◌else◌}
+-- A half with a shape, by what callers see of it.
+use Rattle.std.specs.Prelude.{ℕ, ◌&&◌, not, Bool, false, List, Option, Some, None, if◌then◌else◌}
 use Rattle.sock_words.specs.declared.shape.Shape.{Shape}
-use Rattle.sock_io.specs.declared.link.Put.{Put}
-use Rattle.sock_io.specs.declared.link.Put.TheVariants as put
 use Rattle.sock_io.specs.FaultCauses.{next_number}
 use Rattle.brpc_model.specs.ReturnedLink.{HalfAnswer}
 use Rattle.sock_io.specs.LinkHalves.{OutState}
-
--- put `fail` and all later ones fail, where it is asked for
-abbrev pub fails_at : Shape → ℕ → Bool
-fails_at shape number = nat_lt 0 shape.fail && nat_le shape.fail number
-
--- a put whose number `again` divides answers `Again`, where it is asked for, unless the put before it did
-abbrev pub pauses_at : Shape → ℕ → Bool
-pauses_at shape number = nat_lt 0 shape.again && (number % shape.again == 0)
-
--- how much a put takes at most: so much of the piece, as the room that is left allows
-abbrev pub most_of : Shape → (room : ℕ) → List ℕ → ℕ
-most_of shape room piece = min (min (length piece) shape.piece) room
-
--- what the put of this number answers, where the half inside takes all that it is handed: to fail goes before `Again`
-abbrev pub answer_at : Shape → (number : ℕ) → (after_again : Bool) → (room : ℕ) → List ℕ → Put
-answer_at shape number after_again room piece =
-    if room == 0 || fails_at shape number then put.Failed
-    else (if pauses_at shape number && not after_again then put.Again
-    else put.Took (most_of shape room piece))
-
--- a put takes at most so much
-abbrev pub TakesAtMost : ℕ → Put → Type 0
-TakesAtMost most (put.Took n) = n ≤ most
-TakesAtMost most other = Unit {0}
-
--- what the put of this number may answer, whatever the half inside takes
-pub record FollowsShape (shape : Shape) (number : ℕ) (after_again : Bool) (room : ℕ) (piece : List ℕ) (result : Put) : Type 0 where
-  pub most : TakesAtMost (most_of shape room piece) result
-  pub failed : fails_at shape number ≡ true → result ≡ put.Failed
-  pub full : room ≡ 0 → result ≡ put.Failed
-  pub again : 0 < room → fails_at shape number ≡ false → pauses_at shape number ≡ true → after_again ≡ false → result ≡ put.Again
+use Rattle.sock_io.specs.PutAnswers.{Pacing, pauses_at}
 
 -- a half with a shape: the half inside, how many puts were made, whether the last one answered `Again`, all that it
 -- took, its count of faults, and all that it answered
@@ -49,6 +17,10 @@ pub record ShapedState : Type 0 where
   pub faults : ℕ
   pub answers : List HalfAnswer
 
+-- how its puts go, where the half inside takes all that it is handed
+abbrev pub pacing_of : ShapedState → Option Pacing
+pacing_of s = if s.inner.whole then Some (record { shape = s.shape; puts = s.puts; paused = s.paused }) else None
+
 -- such a half as a writing half: the next put isn't `Again` where neither its number nor the half inside asks for it
 abbrev pub shaped_out : ShapedState → OutState
-shaped_out s = record { link = s.inner.link; took = Some s.taken; put_bytes = Some s.taken; way = s.inner.way; faults = s.faults; finished = s.inner.finished; clear = not (pauses_at s.shape (next_number s.puts) && not s.paused) && s.inner.clear; always_ready = s.inner.always_ready; again = s.paused; steady = false; whole = false; answers = Some s.answers }
+shaped_out s = record { link = s.inner.link; took = Some s.taken; put_bytes = Some s.taken; way = s.inner.way; faults = s.faults; finished = s.inner.finished; clear = not (pauses_at s.shape (next_number s.puts) && not s.paused) && s.inner.clear; always_ready = s.inner.always_ready; again = s.paused; steady = false; whole = false; pacing = pacing_of s; answers = Some s.answers }

@@ -1,8 +1,8 @@
-ghost use Rattle.std.specs.Prelude.{◌≡◌, ◌≢◌, ◌+◌, ◌<◌, ◌∷◌, ◌++◌, [], Bool, true, false, length, IfOk, IfSome, OnErr, OnOk, None};
+ghost use Rattle.std.specs.Prelude.{◌≡◌, ◌≢◌, ◌+◌, ◌<◌, ◌∷◌, ◌++◌, [], Bool, true, false, length, IfOk, IfSome, OnErr, OnOk, None, Some};
 ghost use Rattle.std.specs.List.{AllByRecursion};
 ghost use Rattle.brpc_model.specs.ReturnedLink.{LinkEnd};
 ghost use Rattle.sock_io.specs.FaultCauses.{OpenCause};
-ghost use Rattle.sock_io.specs.LinkHalves.{OutState, InState, PutStep, ReadyStep, FinishStep, TakeStep, SettleStep, IsSettled, IsNewOffer, IsFresh, IsUnused, LinkerState, MayOpen, end_of};
+ghost use Rattle.sock_io.specs.LinkHalves.{OutState, InState, PutStep, ReadyStep, FinishStep, TakeStep, SettleStep, IsSettled, IsNewOffer, IsFresh, IsUnused, LinkerState, MayOpen, end_of, new_pacing};
 ghost use Rattle.sock_io.specs.MeetingOnOneThread.{AreEnds, IsAskedPeer, MeetOut, MeetStep};
 ghost use Rattle.sock_io.specs.Peer.{PeerState, ServeStep, IsNewPeer};
 
@@ -170,12 +170,17 @@ pub trait Linker {
     /// the ends are compared (`meet`), but not before: which way their bytes come is known.
     ghost tells_in: { Mode → Bool } = { λ _. false };
 
+    /// Whether links in this mode answer each put just as the shape says that was asked for, with a half inside that takes
+    /// all.
+    ghost goes_by_shape: { Mode → Bool } = { λ _. false };
+
     /// Opens the next link, and reserves the room for its `back`.
     fn open(&mut self, spec: &LinkSpec) -> Result<Ends<Self::O, Self::I, Self::P>, OpenFault>
         requires { MayOpen (Self.state self.old).asked spec.now }
         ensures fresh { IfOk result (λ ends. IsFresh (Self.O.state ends.out) (Self.I.state ends.inn) (length (Self.state self.old).asked)) }
         ensures peer { IfOk result (λ ends. IsNewPeer (Self.P.state ends.peer)) }
         ensures offer { IfOk result (λ ends. IfSome (Self.I.state ends.inn).offer (λ o. IsNewOffer spec.now o)) }
+        ensures shaped { IfOk result (λ ends. goes_by_shape spec.now.mode ≡ true → (Self.O.state ends.out).pacing ≡ Some (new_pacing spec.now)) }
         ensures one { IfOk result (λ ends. AreEnds (Self.O.state ends.out) (Self.P.state ends.peer) (Self.I.state ends.inn)) }
         ensures other { IfOk result (λ ends. IsAskedPeer spec.now (Self.P.state ends.peer)) }
         ensures tells { IfOk result (λ ends. tells_in spec.now.mode ≡ true → ((Self.I.state ends.inn).way ≢ []) × ((Self.I.state ends.inn).offer ≡ None) × ((Self.P.state ends.peer).present ≡ true)) }
@@ -216,9 +221,10 @@ pub trait Linker {
         ensures others { Self.state self.new ≡ record (Self.state self.old) { accepted = (Self.state self.new).accepted; faults = (Self.state self.new).faults } }
         ensures cause { OpenCause (Self.state self.old).faults (Self.state self.new).faults result };
 
-    /// Takes a connection back.
+    /// Takes a connection back, whose writing half was finished.
     fn done(&mut self, out: Self::O, inn: Self::I)
-        requires { length (Self.state self.old).done < (Self.state self.old).accepted }
+        requires fewer { length (Self.state self.old).done < (Self.state self.old).accepted }
+        requires finished { (Self.O.state out).finished ≡ true }
         ensures { Self.state self.new ≡ record (Self.state self.old) { done = (Self.state self.old).done ++ end_of (Self.O.state out) (Self.I.state inn) ∷ [] } };
 
     /// Takes a link back, which was opened and not given back before.

@@ -23,7 +23,7 @@ pub struct MemOut {
 impl MemOut {
     /// The writing half of the link of this number. For linkers.
     pub fn new(link: u16) -> Self
-        ensures { ⟦<MemOut as Out>⟧.state result ≡ record { link = link; took = None; put_bytes = None; way = []; faults = 0; finished = false; clear = true; always_ready = true; again = false; steady = true; whole = true; answers = None } }
+        ensures { ⟦<MemOut as Out>⟧.state result ≡ record { link = link; took = None; put_bytes = None; way = []; faults = 0; finished = false; clear = true; always_ready = true; again = false; steady = true; whole = true; pacing = None; answers = None } }
     {
         MemOut {
             link,
@@ -33,7 +33,7 @@ impl MemOut {
 }
 
 impl Out for MemOut {
-    ghost state = { λ o. record { link = o.link; took = None; put_bytes = None; way = []; faults = 0; finished = o.finished; clear = true; always_ready = true; again = false; steady = true; whole = true; answers = None } };
+    ghost state = { λ o. record { link = o.link; took = None; put_bytes = None; way = []; faults = 0; finished = o.finished; clear = true; always_ready = true; again = false; steady = true; whole = true; pacing = None; answers = None } };
 
     fn put(&mut self, piece: &[u8]) -> Put {
         if self.finished {

@@ -1,5 +1,5 @@
 ghost use Rattle.std.specs.Prelude.{◌≡◌};
-ghost use Rattle.sock_io.specs.ShapeOfPuts.{fails_at, pauses_at};
+ghost use Rattle.sock_io.specs.PutAnswers.{fails_at, pauses_at};
 
 use sock_words::Shape;
 

@@ -3,7 +3,8 @@ ghost use Rattle.std.specs.Prelude.{◌≡◌, ◌-◌, ◌<◌, ◌++◌, ◌�
 ghost use Rattle.sock_io.specs.FaultCauses.{next_number};
 ghost use Rattle.sock_io.specs.WritingHalfAnswers.{half_answer};
 ghost use Rattle.sock_io.specs.LinkHalves.{PutStep, ReadyStep, FinishStep, SameKind, of_put, of_ready};
-ghost use Rattle.sock_io.specs.ShapeOfPuts.{FollowsShape, answer_at, shaped_out};
+ghost use Rattle.sock_io.specs.PutAnswers.{FollowsShape, answer_at};
+ghost use Rattle.sock_io.specs.ShapeOfPuts.{shaped_out};
 
 use crate::answered::Answered;
 use crate::counts::{next_call, risen};
