@@ -9,17 +9,18 @@ use sock_words::IdWord;
 use std::alloc::{AllocError, Global};
 
 impl<C> IdTable<C> {
-    /// A table of so many id slots, for the calls among so many operations, and its seats. The slots are at most 4,096 and so
-    /// are the operations, and the seats are from 1 to 64.
+    /// A table of so many id slots, for the calls among so many operations, and its seats. The operations are at most 65,534,
+    /// and there is a seat at least. An operation has words in the table where other threads find its call by its number; who
+    /// finds calls by their ids needs none. A slot makes ids for 67,108,848 versions, a call taking as many as it has attempts,
+    /// and 1 more; whose versions are used up it is retired, and never found free again (bthread_id.md).
     pub fn new(
         alloc: Global,
         slots: u16,
         operations: u16,
         seats: u16,
     ) -> Result<(IdTable<C>, Vec<IdSeat<C>>), AllocError>
-        requires slots { slots ≤ 4096 }
-        requires operations { operations ≤ 4096 }
-        requires seats { (1 ≤ seats) × (seats ≤ 64) }
+        requires operations { operations < 65535 }
+        requires seats { 1 ≤ seats }
         ensures plan { IfOk result (λ t. t.0.plan ≡ record { slots = slots; operations = operations + 1; seats = seats }) }
         ensures seats { IfOk result (λ t. AreNew t.0.table.shared.table_id t.1.items × (length t.1.items ≡ seats)) }
     {
