@@ -1,3 +1,4 @@
 pub mod LinkNumbering
+pub mod ShapesOfOpenedLinks
 pub mod OffersOfOpenedLinks
 pub mod OpeningLinksInOrder

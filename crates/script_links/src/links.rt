@@ -41,7 +41,7 @@ fn open_line<L: Linker>(
     ensures err { OnErr result (length ends.new.items ≡ length ends.old.items) }
     ensures asked { OnOk result ((L.state links.new).asked ≡ (L.state links.old).asked ++ specs_of mode (item line.now ∷ [])) }
     ensures refused { OnErr result ((L.state links.new).asked ≡ (L.state links.old).asked) }
-    ensures offers { OnOk result (TellOffers L.O.state L.I.state → AreAsked (L.state links.old).asked (map (λ e. L.O.state e.out) ends.old.items) (map (λ e. L.I.state e.inn) ends.old.items) → AreAsked (L.state links.new).asked (map (λ e. L.O.state e.out) ends.new.items) (map (λ e. L.I.state e.inn) ends.new.items)) }
+    ensures offers { OnOk result (TellOffers L.goes_by_shape L.O.state L.I.state → AreAsked L.goes_by_shape (L.state links.old).asked (map (λ e. L.O.state e.out) ends.old.items) (map (λ e. L.I.state e.inn) ends.old.items) → AreAsked L.goes_by_shape (L.state links.new).asked (map (λ e. L.O.state e.out) ends.new.items) (map (λ e. L.I.state e.inn) ends.new.items)) }
     ensures ends { OnOk result (AreOpened L.tells_in L.O.state L.P.state L.I.state (L.state links.old).asked ends.old.items → AreOpened L.tells_in L.O.state L.P.state L.I.state (L.state links.new).asked ends.new.items) }
     ensures opened { length (L.state links.new).asked ≡ length ends.new.items }
     ensures back { (L.state links.new).back ≡ (L.state links.old).back }
@@ -81,7 +81,7 @@ pub fn open_links<L: Linker>(
     ensures most { length ends.new.items ≤ count_by is_open_line lines.now }
     ensures asked { OnOk result ((L.state links.new).asked ≡ specs_of mode (map item lines.now)) }
     ensures front { IsBeginning (L.state links.new).asked (specs_of mode (map item lines.now)) }
-    ensures offers { OnOk result (TellOffers L.O.state L.I.state → AreAsked (L.state links.new).asked (map (λ e. L.O.state e.out) ends.new.items) (map (λ e. L.I.state e.inn) ends.new.items)) }
+    ensures offers { OnOk result (TellOffers L.goes_by_shape L.O.state L.I.state → AreAsked L.goes_by_shape (L.state links.new).asked (map (λ e. L.O.state e.out) ends.new.items) (map (λ e. L.I.state e.inn) ends.new.items)) }
     ensures ends { OnOk result (AreOpened L.tells_in L.O.state L.P.state L.I.state (L.state links.new).asked ends.new.items) }
     ensures opened { length (L.state links.new).asked ≡ length ends.new.items }
     ensures back { (L.state links.new).back ≡ (L.state links.old).back }

@@ -31,7 +31,7 @@ returns-clause-unclosed g c old = all_with _ _ _ c.in_ok-opened.opened old (sear
 pub returns-clause-offers : goal.returns-clause-offers
 returns-clause-offers g c tell old =
     let opened = c.in_ok-opened in
-    asked_with (λ e. g.L.O.Out.state e.out) (λ e. g.L.I.In.state e.inn) _ _ _ _ opened.opened _ c.spec_of.result c.requires.opened opened.ensures.asked (search rules) opened.ensures.fresh opened.ensures.offer
+    asked_with g.L.Linker.goes_by_shape (λ e. g.L.O.Out.state e.out) (λ e. g.L.I.In.state e.inn) _ _ _ _ opened.opened _ c.spec_of.result c.requires.opened opened.ensures.asked (search rules) opened.ensures.fresh opened.ensures.offer opened.ensures.shaped
     (tell.0 opened.opened.out) (tell.1 opened.opened.inn).0 (tell.1 opened.opened.inn).1 old
 
 pub returns-clause-ends : goal.returns-clause-ends

@@ -13,7 +13,7 @@ abbrev pub invariant-loop-line : goal.invariant-loop-line
 invariant-loop-line g l = record {
   opened : length (g.L.Linker.state l.links).asked ≡ length l.ends.items;
   asked : (g.L.Linker.state l.links).asked ≡ specs_of l.fn.mode (map item (take l.line-index l.lines));
-  offers : TellOffers g.L.O.Out.state g.L.I.In.state → AreAsked (g.L.Linker.state l.links).asked (map (λ e. g.L.O.Out.state e.out) l.ends.items) (map (λ e. g.L.I.In.state e.inn) l.ends.items);
+  offers : TellOffers g.L.Linker.goes_by_shape g.L.O.Out.state g.L.I.In.state → AreAsked g.L.Linker.goes_by_shape (g.L.Linker.state l.links).asked (map (λ e. g.L.O.Out.state e.out) l.ends.items) (map (λ e. g.L.I.In.state e.inn) l.ends.items);
   ends : AreOpened g.L.Linker.tells_in g.L.O.Out.state g.L.P.Peer.state g.L.I.In.state (g.L.Linker.state l.links).asked l.ends.items;
   fresh : AreUntouched 0 (map (λ e. end_of (g.L.O.Out.state e.out) (g.L.I.In.state e.inn)) l.ends.items);
   unfinished : AllByRecursion (λ (e : Ends g.row.L-O.Denot g.row.L-I.Denot g.row.L-P.Denot). (g.L.O.Out.state e.out).finished ≡ false) l.ends.items;
