@@ -263,9 +263,9 @@ served_tells out inn (e ∷ es) = (record { took = refl; answers = refl; gave = 
 pub served_tells_closed : TellClosed loop_in
 served_tells_closed inn = (λ e. cc, λ e. cc)
 
--- and these tell what they took, gave and are offered: so what is served over them is claimed
-pub served_tells_offers : TellOffers shaped_out loop_in
-served_tells_offers = ((λ out e. cc), λ inn. (λ e. cc, λ e. cc))
+-- and these tell what they took, gave and are offered, and all go by their shapes: so what is served over them is claimed, and how they answer
+pub served_tells_offers : TellOffers (λ asked. true) shaped_out loop_in
+served_tells_offers = ((λ out e. cc), λ inn. (λ e. cc, λ e. cc), refl)
 
 -- ## The statuses of `frames`
 
