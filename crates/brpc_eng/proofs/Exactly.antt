@@ -1,6 +1,6 @@
 -- What the answers say together: 2 comes exactly where the words ask for no command; with 0 no write failed; and where nothing stands in the
 -- way of a report, only it and want of memory come.
-use Rattle.std.proofs.Common.{◌≡◌, ◌≢◌, ℕ, ◌<◌, ◌≤◌, ◌⊎◌, inl, inr, List, [], ◌∷◌, ◌++◌, map, refl, length, Option, Some, None, Result, Ok, Err, ap, sym, ◌∙◌, subst, arith, length-append, append-nil}
+use Rattle.std.proofs.Common.{◌≡◌, ◌≢◌, ℕ, ◌<◌, ◌≤◌, ◌⊎◌, inl, inr, true, List, [], ◌∷◌, ◌++◌, map, refl, length, Option, Some, None, Result, Ok, Err, ap, sym, ◌∙◌, subst, arith, length-append, append-nil}
 use Rattle.std.specs.Io.KnownBytes.{Consumes}
 use Rattle.brpc_eng.specs.CommandWords.{Command, Replay, Sim, Run, Gen, Load, Frames, Serve, command_of}
 use Rattle.brpc_model.specs.Items.{Item}

@@ -1,7 +1,7 @@
 -- A link whose puts go by a shape answers each put by it, and each step keeps that they go on so.
 use Rattle.std.proofs.Common.{◌≡◌, ◌≢◌, refl, ℕ, ◌<◌, ◌≤◌, ◌==◌, Bool, true, false, if◌then◌else◌, cond, eq-eqb, ne_eqb, List, [], ◌∷◌, ◌++◌, append-nil, length, map, filter, slice_set, Option, Some, IfSome, ap, sym, ◌∙◌, arith, subst}
 use Rattle.std.proofs.lemmas.List.Sums.{fold-append}
-use Rattle.std.specs.Prelude.{fold, option_map}
+use Rattle.std.specs.Prelude.{option_map}
 use Rattle.std.specs.Io.KnownBytes.{append_known}
 use mathlib.Core.Logic.{dite}
 use native.Mathlib.Decide.{ℕ_discrete}
@@ -21,7 +21,7 @@ use Rattle.seat_programs.specs.TableSteps as calls
 use Rattle.seat_programs.specs.LoopRounds.{first_step}
 use Rattle.seat_programs.specs.Programs.{Program, PutBytes}
 use Rattle.seat_programs.specs.Cores.{Core, SeatState}
-use Rattle.seat_programs.specs.Ticks.{Answer, OfPut, OfReady, Moment, asked_link}
+use Rattle.seat_programs.specs.Ticks.{Answer, OfPut, Moment, asked_link}
 use Rattle.machine_model.specs.run_theorems.specs.Heard.{heard_at, heard_in}
 use Rattle.machine_model.specs.run_theorems.specs.OfferedAtTakes.{HasTaken}
 use Rattle.machine_model.specs.run_theorems.specs.ShapedPuts.{paced_by, paced, ShapedAt, AreShaped}
