@@ -227,7 +227,7 @@ shapes_append p k shape so_far c [] ys first second = subst (λ (answers : List 
 shapes_append p k shape so_far c (m ∷ ms) ys first second = (
   first.0,
   shapes_append p k shape (so_far ++ heard_at c m k) (ticked p c m) ms ys first.1
-  (subst (λ (answers : List Answer). AreShaped p k shape answers (run p (ticked p c m) ms) ys) (sym (append_assoc so_far (heard_at c m k) (heard_in p (ticked p c m) ms k))) second),
+      (subst (λ (answers : List Answer). AreShaped p k shape answers (run p (ticked p c m) ms) ys) (sym (append_assoc so_far (heard_at c m k) (heard_in p (ticked p c m) ms k))) second),
 )
 
 module _ (p : Plan) where
@@ -279,7 +279,7 @@ module _ (a b c : MachineState) (took : Taken) (gave : Given) (xs ys : List Mome
         let y = g.shapes k shape said x.1 in (
           shapes_append a.plan k shape so_far start xs ys x.0 (moved (λ p d. AreShaped p k shape said d ys) y.0),
           subst (IsShapedSo c.links k shape) (append_assoc so_far (heard_in a.plan start xs k) (heard_in a.plan (run a.plan start xs) ys k) ∙ ap (λ (l : List Answer). so_far ++ l) (sym (heard_on a.plan start xs ys k)))
-          (moved (λ p d. IsShapedSo c.links k shape (said ++ heard_in p d ys k)) y.1),
+              (moved (λ p d. IsShapedSo c.links k shape (said ++ heard_in p d ys k)) y.1),
         );
     so_far = g.so_far;
     core = moved (λ p d. core_with c g.later g.later_gave ≡ run p d ys) g.core ∙ sym (run_append a.plan start xs ys);

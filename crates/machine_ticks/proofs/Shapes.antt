@@ -167,7 +167,7 @@ module _ (old fresh : MachineState) (i : ℕ) (place seat' : SeatData) (step : S
           is_done old.links k,
           taken_there old letters few kept took gave k inside,
           w.1 ∙ ap OfPut (subst (λ (t : List ℕ). w.0 ≡ (if is_done old.links k then Failed else next_answer (paced shape so_far) t bytes)) took_is
-          (subst (λ (d : Bool). w.0 ≡ (if d then Failed else next_answer (paced shape so_far) h.took bytes)) done_is answered)),
+              (subst (λ (d : Bool). w.0 ≡ (if d then Failed else next_answer (paced shape so_far) h.took bytes)) done_is answered)),
         )
 
     shaped_at : (program : Program) (first : First) (answer : Answer) → first_of program ≡ Some first → MadeFirst (table_of old) (table_of fresh) i place seat' step first answer → ShapedAt old.plan k shape so_far before answer program
