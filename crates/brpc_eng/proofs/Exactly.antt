@@ -1,6 +1,6 @@
 -- What the answers say together: 2 comes exactly where the words ask for no command; with 0 no write failed; and where nothing stands in the
 -- way of a report, only it and want of memory come.
-use Rattle.std.proofs.Common.{◌≡◌, ◌≢◌, ℕ, ◌<◌, ◌≤◌, ◌⊎◌, inl, inr, List, [], ◌∷◌, ◌++◌, map, refl, length, Option, Some, None, Result, Ok, Err, ap, sym, ◌∙◌, subst, arith, length-append, append-nil}
+use Rattle.std.proofs.Common.{◌≡◌, ◌≢◌, ℕ, ◌<◌, ◌≤◌, ◌⊎◌, inl, inr, true, List, [], ◌∷◌, ◌++◌, map, refl, length, Option, Some, None, Result, Ok, Err, ap, sym, ◌∙◌, subst, arith, length-append, append-nil}
 use Rattle.std.specs.Io.KnownBytes.{Consumes}
 use Rattle.brpc_eng.specs.CommandWords.{Command, Replay, Sim, Run, Gen, Load, Frames, Serve, command_of}
 use Rattle.brpc_model.specs.Items.{Item}
@@ -263,9 +263,9 @@ served_tells out inn (e ∷ es) = (record { took = refl; answers = refl; gave = 
 pub served_tells_closed : TellClosed loop_in
 served_tells_closed inn = (λ e. cc, λ e. cc)
 
--- and these tell what they took, gave and are offered: so what is served over them is claimed
-pub served_tells_offers : TellOffers shaped_out loop_in
-served_tells_offers = ((λ out e. cc), λ inn. (λ e. cc, λ e. cc))
+-- and these tell what they took, gave and are offered, and all go by their shapes: so what is served over them is claimed, and how they answer
+pub served_tells_offers : TellOffers (λ asked. true) shaped_out loop_in
+served_tells_offers = ((λ out e. cc), λ inn. (λ e. cc, λ e. cc), refl)
 
 -- ## The statuses of `frames`
 

@@ -67,7 +67,7 @@ pub record Output : Type 0 where
   pub now : Option (List ℕ)
   pub faults : Faults
 
--- a linker: whether its links are always ready in time, that each reading half tells whether it is found closed, that each link tells what it took, gave and is offered, whether links in a mode tell in the end what their other ends offered, what was asked of each
+-- a linker: whether its links are always ready in time, that each reading half tells whether it is found closed, that each link tells what it took, gave and is offered and goes by its shape, whether links in a mode tell in the end what their other ends offered, what was asked of each
 -- link that was opened, and those that were given back; and how many connections were accepted, and those that were given back
 pub record Links : Type 1 where
   pub always_ready : Bool

@@ -27,7 +27,7 @@ pub fn brpc_alone<S: Source, K: Sink, L: Linker>(
 ) -> u8
     requires alone { asks_to_wait (map string_bytes words.now) ≡ false }
     requires unused { UnusedLinker (L.state links.old) }
-    ensures answers { AnswersAlone usage.now (map string_bytes words.now) (source_over (S.state source.old) (S.state source.new)) (sink_over (K.state out.old) (K.state out.new)) (linker_over (TellClosed L.I.state) (TellOffers L.O.state L.I.state) L.tells_in (L.state links.old) (L.state links.new)) result }
+    ensures answers { AnswersAlone usage.now (map string_bytes words.now) (source_over (S.state source.old) (S.state source.new)) (sink_over (K.state out.old) (K.state out.new)) (linker_over (TellClosed L.I.state) (TellOffers L.goes_by_shape L.O.state L.I.state) L.tells_in (L.state links.old) (L.state links.new)) result }
     ensures counts { CountsStand (faults_over (S.state source.old).faults (S.state source.new).faults) (faults_over (L.state links.old).faults (L.state links.new).faults) result }
 {
     answer_alone(alloc, usage, words, source, out, links).number()
@@ -44,7 +44,7 @@ pub fn answer_alone<S: Source, K: Sink, L: Linker>(
 ) -> Status
     requires alone { asks_to_wait (map string_bytes words.now) ≡ false }
     requires unused { UnusedLinker (L.state links.old) }
-    ensures answers { AnswersAlone usage.now (map string_bytes words.now) (source_over (S.state source.old) (S.state source.new)) (sink_over (K.state out.old) (K.state out.new)) (linker_over (TellClosed L.I.state) (TellOffers L.O.state L.I.state) L.tells_in (L.state links.old) (L.state links.new)) (number_of result) }
+    ensures answers { AnswersAlone usage.now (map string_bytes words.now) (source_over (S.state source.old) (S.state source.new)) (sink_over (K.state out.old) (K.state out.new)) (linker_over (TellClosed L.I.state) (TellOffers L.goes_by_shape L.O.state L.I.state) L.tells_in (L.state links.old) (L.state links.new)) (number_of result) }
     ensures counts { CountsStand (faults_over (S.state source.old).faults (S.state source.new).faults) (faults_over (L.state links.old).faults (L.state links.new).faults) (number_of result) }
 {
     match read_command(words) {

@@ -48,8 +48,9 @@ pub fn brpc<R: Threads + Wait + Sync, S: Source, K: Sink, L: Linker, G: Gate + S
 ) -> u8
     requires unused { UnusedLinker (L.state links.old) }
     // `TellClosed`: a reading half of this type tells whether it is found closed. Links in memory do. `TellOffers`: its links tell what
-    // they took, gave and are offered, as those whose other end is the built-in server do.
-    ensures answers { Answers usage.now (map string_bytes words.now) (source_over (S.state source.old) (S.state source.new)) (sink_over (K.state out.old) (K.state out.new)) (linker_over (TellClosed L.I.state) (TellOffers L.O.state L.I.state) L.tells_in (L.state links.old) (L.state links.new)) result }
+    // they took, gave and are offered, as those whose other end is the built-in server do, and those in memory answer each put as the
+    // options of their `open` say.
+    ensures answers { Answers usage.now (map string_bytes words.now) (source_over (S.state source.old) (S.state source.new)) (sink_over (K.state out.old) (K.state out.new)) (linker_over (TellClosed L.I.state) (TellOffers L.goes_by_shape L.O.state L.I.state) L.tells_in (L.state links.old) (L.state links.new)) result }
     ensures counts { CountsStand (faults_over (S.state source.old).faults (S.state source.new).faults) (faults_over (L.state links.old).faults (L.state links.new).faults) result }
 {
     answer(rt, alloc, usage, words, source, out, links, gate).number()
@@ -67,7 +68,7 @@ fn answer<R: Threads + Wait + Sync, S: Source, K: Sink, L: Linker, G: Gate + Syn
     gate: &G,
 ) -> Status
     requires unused { UnusedLinker (L.state links.old) }
-    ensures answers { Answers usage.now (map string_bytes words.now) (source_over (S.state source.old) (S.state source.new)) (sink_over (K.state out.old) (K.state out.new)) (linker_over (TellClosed L.I.state) (TellOffers L.O.state L.I.state) L.tells_in (L.state links.old) (L.state links.new)) (number_of result) }
+    ensures answers { Answers usage.now (map string_bytes words.now) (source_over (S.state source.old) (S.state source.new)) (sink_over (K.state out.old) (K.state out.new)) (linker_over (TellClosed L.I.state) (TellOffers L.goes_by_shape L.O.state L.I.state) L.tells_in (L.state links.old) (L.state links.new)) (number_of result) }
     ensures counts { CountsStand (faults_over (S.state source.old).faults (S.state source.new).faults) (faults_over (L.state links.old).faults (L.state links.new).faults) (number_of result) }
 {
     match read_waiting(words) {

@@ -31,7 +31,7 @@ fn drawn_script(alloc: Global, seed: u64, draw: &Draw) -> Result<Script, NoMemor
 /// Draws a script, runs it by the schedule that its seed draws, and writes the summary of that run.
 pub fn load<K: Sink, L: Linker>(alloc: Global, draw: &Draw, out: &mut K, links: &mut L) -> Status
     requires unopened { OpenedNothing (L.state links.old) }
-    ensures loaded { Loaded draw.now.seed draw.now.clients draw.now.operations (sink_over (K.state out.old) (K.state out.new)) (linker_over (TellClosed L.I.state) (TellOffers L.O.state L.I.state) L.tells_in (L.state links.old) (L.state links.new)) (number_of result) }
+    ensures loaded { Loaded draw.now.seed draw.now.clients draw.now.operations (sink_over (K.state out.old) (K.state out.new)) (linker_over (TellClosed L.I.state) (TellOffers L.goes_by_shape L.O.state L.I.state) L.tells_in (L.state links.old) (L.state links.new)) (number_of result) }
     ensures linker { number_of result ≢ 8 → (L.state links.new).faults ≡ (L.state links.old).faults }
     ensures connections { SameConnections (L.state links.old) (L.state links.new) }
 {

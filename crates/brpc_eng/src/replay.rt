@@ -20,7 +20,7 @@ pub fn replay<S: Source, K: Sink, L: Linker>(
     schedule: Schedule,
 ) -> Status
     requires unopened { OpenedNothing (L.state links.old) }
-    ensures replayed { ReplayedInput in_memory (by_turns (λ script. turns_of script schedule)) (source_over (S.state source.old) (S.state source.new)) (sink_over (K.state out.old) (K.state out.new)) (linker_over (TellClosed L.I.state) (TellOffers L.O.state L.I.state) L.tells_in (L.state links.old) (L.state links.new)) (number_of result) }
+    ensures replayed { ReplayedInput in_memory (by_turns (λ script. turns_of script schedule)) (source_over (S.state source.old) (S.state source.new)) (sink_over (K.state out.old) (K.state out.new)) (linker_over (TellClosed L.I.state) (TellOffers L.goes_by_shape L.O.state L.I.state) L.tells_in (L.state links.old) (L.state links.new)) (number_of result) }
     ensures counts { CountsStand (faults_over (S.state source.old).faults (S.state source.new).faults) (faults_over (L.state links.old).faults (L.state links.new).faults) (number_of result) }
     ensures connections { SameConnections (L.state links.old) (L.state links.new) }
 {

@@ -25,8 +25,8 @@ pub fn run_and_report<K: Sink, L: Linker>(
     requires unopened { OpenedNothing (L.state links.old) }
     requires short { IsShort script }
     requires pieces { list_all has_piece script ≡ true }
-    ensures ran { Ran (turns_of script schedule) script (sink_over (K.state out.old) (K.state out.new)) (linker_over (TellClosed L.I.state) (TellOffers L.O.state L.I.state) L.tells_in (L.state links.old) (L.state links.new)) (number_of result) }
-    ensures opened { OpenedBy modes.Loop script (linker_over (TellClosed L.I.state) (TellOffers L.O.state L.I.state) L.tells_in (L.state links.old) (L.state links.new)) (number_of result) }
+    ensures ran { Ran (turns_of script schedule) script (sink_over (K.state out.old) (K.state out.new)) (linker_over (TellClosed L.I.state) (TellOffers L.goes_by_shape L.O.state L.I.state) L.tells_in (L.state links.old) (L.state links.new)) (number_of result) }
+    ensures opened { OpenedBy modes.Loop script (linker_over (TellClosed L.I.state) (TellOffers L.goes_by_shape L.O.state L.I.state) L.tells_in (L.state links.old) (L.state links.new)) (number_of result) }
     ensures linker { number_of result ≢ 8 → (L.state links.new).faults ≡ (L.state links.old).faults }
     ensures connections { SameConnections (L.state links.old) (L.state links.new) }
 {

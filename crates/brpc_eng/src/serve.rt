@@ -22,7 +22,7 @@ pub fn serve<R: Threads + Wait + Sync, K: Sink, L: Linker>(
     links: &mut L,
 ) -> Status
     requires unused { UnusedLinker (L.state links.old) }
-    ensures served { ServedPort doors.now.connections (sink_over (K.state out.old) (K.state out.new)) (linker_over (TellClosed L.I.state) (TellOffers L.O.state L.I.state) L.tells_in (L.state links.old) (L.state links.new)) (number_of result) }
+    ensures served { ServedPort doors.now.connections (sink_over (K.state out.old) (K.state out.new)) (linker_over (TellClosed L.I.state) (TellOffers L.goes_by_shape L.O.state L.I.state) L.tells_in (L.state links.old) (L.state links.new)) (number_of result) }
     ensures linker { number_of result ≢ 8 → (L.state links.new).faults ≡ (L.state links.old).faults }
 {
     match serve_all(

@@ -38,7 +38,7 @@ pub fn run_threads<R: Threads + Wait + Sync, S: Source, K: Sink, L: Linker, G: G
     gate: &G,
 ) -> Status
     requires unopened { OpenedNothing (L.state links.old) }
-    ensures replayed { ReplayedInput (run_mode port) (RanOnThreads (run_mode port)) (source_over (S.state source.old) (S.state source.new)) (sink_over (K.state out.old) (K.state out.new)) (linker_over (TellClosed L.I.state) (TellOffers L.O.state L.I.state) L.tells_in (L.state links.old) (L.state links.new)) (number_of result) }
+    ensures replayed { ReplayedInput (run_mode port) (RanOnThreads (run_mode port)) (source_over (S.state source.old) (S.state source.new)) (sink_over (K.state out.old) (K.state out.new)) (linker_over (TellClosed L.I.state) (TellOffers L.goes_by_shape L.O.state L.I.state) L.tells_in (L.state links.old) (L.state links.new)) (number_of result) }
     ensures counts { CountsStand (faults_over (S.state source.old).faults (S.state source.new).faults) (faults_over (L.state links.old).faults (L.state links.new).faults) (number_of result) }
     ensures connections { SameConnections (L.state links.old) (L.state links.new) }
 {
@@ -61,8 +61,8 @@ fn threads_and_report<R: Threads + Wait + Sync, K: Sink, L: Linker, G: Gate + Sy
     requires unopened { OpenedNothing (L.state links.old) }
     requires short { IsShort script.now }
     requires pieces { list_all has_piece script.now ≡ true }
-    ensures ran { RanOnThreads (run_mode port) script.now (sink_over (K.state out.old) (K.state out.new)) (linker_over (TellClosed L.I.state) (TellOffers L.O.state L.I.state) L.tells_in (L.state links.old) (L.state links.new)) (number_of result) }
-    ensures opened { OpenedBy (run_mode port) script.now (linker_over (TellClosed L.I.state) (TellOffers L.O.state L.I.state) L.tells_in (L.state links.old) (L.state links.new)) (number_of result) }
+    ensures ran { RanOnThreads (run_mode port) script.now (sink_over (K.state out.old) (K.state out.new)) (linker_over (TellClosed L.I.state) (TellOffers L.goes_by_shape L.O.state L.I.state) L.tells_in (L.state links.old) (L.state links.new)) (number_of result) }
+    ensures opened { OpenedBy (run_mode port) script.now (linker_over (TellClosed L.I.state) (TellOffers L.goes_by_shape L.O.state L.I.state) L.tells_in (L.state links.old) (L.state links.new)) (number_of result) }
     ensures linker { number_of result ≢ 8 → (L.state links.new).faults ≡ (L.state links.old).faults }
     ensures connections { SameConnections (L.state links.old) (L.state links.new) }
 {

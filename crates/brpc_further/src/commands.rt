@@ -35,7 +35,7 @@ pub fn further<R: Threads + Wait + Sync, S: Source, K: Sink, L: Linker, G: Gate 
     gate: &G,
 ) -> u8
     requires unused { UnusedLinker (L.state links.old) }
-    ensures answers { FurtherAnswers (map string_bytes words.now) (source_over (S.state source.old) (S.state source.new)) (sink_over (K.state out.old) (K.state out.new)) (linker_over (TellClosed L.I.state) (TellOffers L.O.state L.I.state) L.tells_in (L.state links.old) (L.state links.new)) result }
+    ensures answers { FurtherAnswers (map string_bytes words.now) (source_over (S.state source.old) (S.state source.new)) (sink_over (K.state out.old) (K.state out.new)) (linker_over (TellClosed L.I.state) (TellOffers L.goes_by_shape L.O.state L.I.state) L.tells_in (L.state links.old) (L.state links.new)) result }
     ensures counts { CountsStand (faults_over (S.state source.old).faults (S.state source.new).faults) (faults_over (L.state links.old).faults (L.state links.new).faults) result }
 {
     brpc(rt, alloc, usage(), words, source, out, links, gate)
@@ -51,7 +51,7 @@ pub fn further_alone<S: Source, K: Sink, L: Linker>(
 ) -> u8
     requires alone { may_wait (map string_bytes words.now) ≡ false }
     requires unused { UnusedLinker (L.state links.old) }
-    ensures answers { FurtherAnswersAlone (map string_bytes words.now) (source_over (S.state source.old) (S.state source.new)) (sink_over (K.state out.old) (K.state out.new)) (linker_over (TellClosed L.I.state) (TellOffers L.O.state L.I.state) L.tells_in (L.state links.old) (L.state links.new)) result }
+    ensures answers { FurtherAnswersAlone (map string_bytes words.now) (source_over (S.state source.old) (S.state source.new)) (sink_over (K.state out.old) (K.state out.new)) (linker_over (TellClosed L.I.state) (TellOffers L.goes_by_shape L.O.state L.I.state) L.tells_in (L.state links.old) (L.state links.new)) result }
     ensures counts { CountsStand (faults_over (S.state source.old).faults (S.state source.new).faults) (faults_over (L.state links.old).faults (L.state links.new).faults) result }
 {
     brpc_alone(alloc, usage(), words, source, out, links)

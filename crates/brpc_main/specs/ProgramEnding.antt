@@ -22,15 +22,15 @@ pub record EndsOver (Answered : Answering) (tells offering : Type 0) (tells_in :
   pub is_unused : UnusedLinker unused
   pub answered : Answered words input out (linker_over tells offering tells_in unused left) number
 
--- ## Over a linker of a kind, by what its halves tell
+-- ## Over a linker of a kind, by which of its links go by their shapes, and by what its halves tell
 
 -- the words were answered
-abbrev pub Ends : {A B : Type 0} → (A → OutState) → (B → InState) → (Mode → Bool) → List (List ℕ) → ℕ → Type 0
-Ends out inn tells_in words number = EndsOver FurtherAnswers (TellClosed inn) (TellOffers out inn) tells_in words number
+abbrev pub Ends : {A B : Type 0} → (goes : Mode → Bool) → (A → OutState) → (B → InState) → (tells_in : Mode → Bool) → List (List ℕ) → ℕ → Type 0
+Ends goes out inn tells_in words number = EndsOver FurtherAnswers (TellClosed inn) (TellOffers goes out inn) tells_in words number
 
 -- they were answered without a wait
-abbrev pub EndsAlone : {A B : Type 0} → (A → OutState) → (B → InState) → (Mode → Bool) → List (List ℕ) → ℕ → Type 0
-EndsAlone out inn tells_in words number = EndsOver FurtherAnswersAlone (TellClosed inn) (TellOffers out inn) tells_in words number
+abbrev pub EndsAlone : {A B : Type 0} → (goes : Mode → Bool) → (A → OutState) → (B → InState) → (tells_in : Mode → Bool) → List (List ℕ) → ℕ → Type 0
+EndsAlone goes out inn tells_in words number = EndsOver FurtherAnswersAlone (TellClosed inn) (TellOffers goes out inn) tells_in words number
 
 -- the first word is `serve`
 abbrev pub begins_with_serve : List (List ℕ) → Bool

@@ -39,7 +39,7 @@ pub fn run_program<
         + Net<Stream = TcpStream, Listener = TcpListener>,
     E: Print,
 >(rt: &R, errors: &E) -> ExitCode
-    ensures { (args : Result (IntoIter (String Global) Global) Error) × ((exit_status result ≡ 7) ⊎ EndsBy (EndsAlone ⟦<Shaped<MemOut> as Out>⟧.state ⟦<LoopIn as In>⟧.state ⟦<LoopLinker as Linker>⟧.tells_in) (Ends ⟦<ProgOut as Out>⟧.state ⟦<ProgIn as In>⟧.state ⟦<ProgLinker<&'static R> as Linker>⟧.tells_in) (Ends ⟦<TcpHalf as Out>⟧.state ⟦<TcpIn as In>⟧.state ⟦<TcpLinker<&'static R> as Linker>⟧.tells_in) (words_behind args) (exit_status result)) }
+    ensures { (args : Result (IntoIter (String Global) Global) Error) × ((exit_status result ≡ 7) ⊎ EndsBy (EndsAlone ⟦<LoopLinker as Linker>⟧.goes_by_shape ⟦<Shaped<MemOut> as Out>⟧.state ⟦<LoopIn as In>⟧.state ⟦<LoopLinker as Linker>⟧.tells_in) (Ends ⟦<ProgLinker<&'static R> as Linker>⟧.goes_by_shape ⟦<ProgOut as Out>⟧.state ⟦<ProgIn as In>⟧.state ⟦<ProgLinker<&'static R> as Linker>⟧.tells_in) (Ends ⟦<TcpLinker<&'static R> as Linker>⟧.goes_by_shape ⟦<TcpHalf as Out>⟧.state ⟦<TcpIn as In>⟧.state ⟦<TcpLinker<&'static R> as Linker>⟧.tells_in) (words_behind args) (exit_status result)) }
 {
     run_arguments(rt, env::args(rt), errors)
 }
@@ -57,7 +57,7 @@ pub fn run_arguments<
         + Net<Stream = TcpStream, Listener = TcpListener>,
     E: Print,
 >(rt: &R, args: io::Result<Args>, errors: &E) -> ExitCode
-    ensures { (exit_status result ≡ 7) ⊎ EndsBy (EndsAlone ⟦<Shaped<MemOut> as Out>⟧.state ⟦<LoopIn as In>⟧.state ⟦<LoopLinker as Linker>⟧.tells_in) (Ends ⟦<ProgOut as Out>⟧.state ⟦<ProgIn as In>⟧.state ⟦<ProgLinker<&'static R> as Linker>⟧.tells_in) (Ends ⟦<TcpHalf as Out>⟧.state ⟦<TcpIn as In>⟧.state ⟦<TcpLinker<&'static R> as Linker>⟧.tells_in) (words_behind args) (exit_status result) }
+    ensures { (exit_status result ≡ 7) ⊎ EndsBy (EndsAlone ⟦<LoopLinker as Linker>⟧.goes_by_shape ⟦<Shaped<MemOut> as Out>⟧.state ⟦<LoopIn as In>⟧.state ⟦<LoopLinker as Linker>⟧.tells_in) (Ends ⟦<ProgLinker<&'static R> as Linker>⟧.goes_by_shape ⟦<ProgOut as Out>⟧.state ⟦<ProgIn as In>⟧.state ⟦<ProgLinker<&'static R> as Linker>⟧.tells_in) (Ends ⟦<TcpLinker<&'static R> as Linker>⟧.goes_by_shape ⟦<TcpHalf as Out>⟧.state ⟦<TcpIn as In>⟧.state ⟦<TcpLinker<&'static R> as Linker>⟧.tells_in) (words_behind args) (exit_status result) }
 {
     match all_of(rt.alloc(), args) {
         Ok(args) => run_words(rt, behind_first(&args), errors),
@@ -77,7 +77,7 @@ fn run_words<
         + Net<Stream = TcpStream, Listener = TcpListener>,
     E: Print,
 >(rt: &R, words: &[String], errors: &E) -> ExitCode
-    ensures { EndsBy (EndsAlone ⟦<Shaped<MemOut> as Out>⟧.state ⟦<LoopIn as In>⟧.state ⟦<LoopLinker as Linker>⟧.tells_in) (Ends ⟦<ProgOut as Out>⟧.state ⟦<ProgIn as In>⟧.state ⟦<ProgLinker<&'static R> as Linker>⟧.tells_in) (Ends ⟦<TcpHalf as Out>⟧.state ⟦<TcpIn as In>⟧.state ⟦<TcpLinker<&'static R> as Linker>⟧.tells_in) (map string_bytes words.now) (exit_status result) }
+    ensures { EndsBy (EndsAlone ⟦<LoopLinker as Linker>⟧.goes_by_shape ⟦<Shaped<MemOut> as Out>⟧.state ⟦<LoopIn as In>⟧.state ⟦<LoopLinker as Linker>⟧.tells_in) (Ends ⟦<ProgLinker<&'static R> as Linker>⟧.goes_by_shape ⟦<ProgOut as Out>⟧.state ⟦<ProgIn as In>⟧.state ⟦<ProgLinker<&'static R> as Linker>⟧.tells_in) (Ends ⟦<TcpLinker<&'static R> as Linker>⟧.goes_by_shape ⟦<TcpHalf as Out>⟧.state ⟦<TcpIn as In>⟧.state ⟦<TcpLinker<&'static R> as Linker>⟧.tells_in) (map string_bytes words.now) (exit_status result) }
 {
     let alloc = rt.alloc();
     if !may_wait(words) {
@@ -117,7 +117,7 @@ fn run_over<R: Threads + Wait + Sync + Alloc<A = Global> + Input + Print, L: Lin
     errors: &E,
 ) -> ExitCode
     requires unused { UnusedLinker (L.state links.old) }
-    ensures { Ends L.O.state L.I.state L.tells_in (map string_bytes words.now) (exit_status result) }
+    ensures { Ends L.goes_by_shape L.O.state L.I.state L.tells_in (map string_bytes words.now) (exit_status result) }
 {
     let mut source = StdEdge::new(rt.reader());
     let mut out = StdEdge::new(io::writer(rt));
@@ -143,7 +143,7 @@ fn alone_over<R: Alloc<A = Global> + Input + Print, L: Linker, E: Print>(
 ) -> ExitCode
     requires alone { may_wait (map string_bytes words.now) ≡ false }
     requires unused { UnusedLinker (L.state links.old) }
-    ensures { EndsAlone L.O.state L.I.state L.tells_in (map string_bytes words.now) (exit_status result) }
+    ensures { EndsAlone L.goes_by_shape L.O.state L.I.state L.tells_in (map string_bytes words.now) (exit_status result) }
 {
     let mut source = StdEdge::new(rt.reader());
     let mut out = StdEdge::new(io::writer(rt));

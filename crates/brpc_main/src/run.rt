@@ -27,7 +27,7 @@ pub fn run_with<R: Threads + Wait + Sync, S: Source, K: Sink, L: Linker, G: Gate
     errors: &mut E,
 ) -> ExitCode
     requires unused { UnusedLinker (L.state links.old) }
-    ensures answers { FurtherAnswers (map string_bytes words.now) (source_over (S.state source.old) (S.state source.new)) (sink_over (K.state out.old) (K.state out.new)) (linker_over (TellClosed L.I.state) (TellOffers L.O.state L.I.state) L.tells_in (L.state links.old) (L.state links.new)) (exit_status result) }
+    ensures answers { FurtherAnswers (map string_bytes words.now) (source_over (S.state source.old) (S.state source.new)) (sink_over (K.state out.old) (K.state out.new)) (linker_over (TellClosed L.I.state) (TellOffers L.goes_by_shape L.O.state L.I.state) L.tells_in (L.state links.old) (L.state links.new)) (exit_status result) }
     ensures explained { Wrote (sink_over (E.state errors.old) (E.state errors.new)) (reason_text (map string_bytes words.now) (exit_status result)) }
 {
     let status = further(rt, alloc, words, source, out, links, gate);
@@ -45,7 +45,7 @@ pub fn run_alone<S: Source, K: Sink, L: Linker, E: Sink>(
 ) -> ExitCode
     requires alone { may_wait (map string_bytes words.now) ≡ false }
     requires unused { UnusedLinker (L.state links.old) }
-    ensures answers { FurtherAnswersAlone (map string_bytes words.now) (source_over (S.state source.old) (S.state source.new)) (sink_over (K.state out.old) (K.state out.new)) (linker_over (TellClosed L.I.state) (TellOffers L.O.state L.I.state) L.tells_in (L.state links.old) (L.state links.new)) (exit_status result) }
+    ensures answers { FurtherAnswersAlone (map string_bytes words.now) (source_over (S.state source.old) (S.state source.new)) (sink_over (K.state out.old) (K.state out.new)) (linker_over (TellClosed L.I.state) (TellOffers L.goes_by_shape L.O.state L.I.state) L.tells_in (L.state links.old) (L.state links.new)) (exit_status result) }
     ensures explained { Wrote (sink_over (E.state errors.old) (E.state errors.new)) (reason_text (map string_bytes words.now) (exit_status result)) }
 {
     let status = further_alone(alloc, words, source, out, links);

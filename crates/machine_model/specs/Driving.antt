@@ -13,7 +13,7 @@ use Rattle.sock_words.specs.declared.outcome.Outcome.TheVariants.{Held}
 use Rattle.machine_model.specs.declared.tick.Tick.{Tick}
 use Rattle.machine_model.specs.declared.tick.Tick.TheVariants.{Moved}
 use Rattle.client_seats.specs.ClientSeatState.{SeatData, seat_program}
-use Rattle.machine_model.specs.MachineLinks.{Taken, Given, Agrees, AgreesGave}
+use Rattle.machine_model.specs.MachineLinks.{Taken, Given, Agrees, AgreesGave, StayPaced}
 use Rattle.machine_model.specs.Machines.{MachineState, IsSoundMachine, HasSizes, machine_sizes, core_with}
 use Rattle.machine_model.specs.MachineRuns.{SameTable, SameLinks, Ticked}
 
@@ -78,9 +78,9 @@ IsPlain m = (seat : SeatData) → get_elem? m.seats 0 ≡ core.some seat → Ask
 abbrev pub FirstRests : MachineState → Type 0
 FirstRests m = ((took : Taken) (gave : Given) → IsAtRest (core_with m took gave) 0) × ((seat : SeatData) → get_elem? m.seats 0 ≡ core.some seat → seat.waiting ≡ [])
 
--- a tick of it
+-- a tick of it, in which no link is asked
 abbrev pub TickedFirst : MachineState → MachineState → Type 0
-TickedFirst old new = IsPlain new × (new.ends ≡ old.ends) × ((took : Taken) (gave : Given) → Agrees old.links took → AgreesGave old.links gave →
+TickedFirst old new = IsPlain new × (new.ends ≡ old.ends) × StayPaced old.links.outs new.links × ((took : Taken) (gave : Given) → Agrees old.links took → AgreesGave old.links gave →
     Agrees new.links took × AgreesGave new.links gave × (core_with new took gave ≡ ticked old.plan (core_with old took gave) (quiet 0)))
 
 -- ## The ending

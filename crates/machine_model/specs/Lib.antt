@@ -8,6 +8,7 @@ pub mod ReadingSteps
 pub mod PassingOverTaken
 pub mod Driving
 pub mod MachineParts
+pub use Rattle.script_links
 pub use Rattle.run_theorems
 pub use Rattle.id_runs
 pub use Rattle.seat_states.specs.program_steps

@@ -3,15 +3,19 @@ use Rattle.std.specs.Prelude.{ℕ, ◌≡◌, ◌≢◌, ◌==◌, ◌++◌, tru
 use mathlib.Core.Option as core
 use lib.ListN.{get_elem?}
 use Rattle.sock_words.specs.declared.plain.Plan.{Plan}
+use Rattle.sock_words.specs.declared.shape.Shape.{Shape}
 use Rattle.sock_io.specs.LinkHalves.{OutState, InState}
+use Rattle.sock_io.specs.PutAnswers.{Pacing}
 use Rattle.sock_model.specs.declared.home.Home.{Home}
 use Rattle.sock_model.specs.declared.home.Home.TheVariants.{Link, Message}
 use Rattle.seat_programs.specs.Writings as heads
 use Rattle.seat_programs.specs.Programs.{Program, PutBytes, Write}
+use Rattle.seat_programs.specs.Ticks.{Answer}
 use Rattle.seat_programs.specs.ScheduledRuns.{from_to}
+use Rattle.run_theorems.specs.ShapedPuts.{paced}
 use Rattle.message_parts.specs.Parcels.{parcel_of}
 use Rattle.seat_states.specs.ProgramAtPoint.{heading_by}
-use Rattle.script_links.specs.OfferedLinks.{IsOffered}
+use Rattle.script_links.specs.OfferedLinks.{IsOffered, TellsPacing}
 use Rattle.machine_model.specs.declared.home_message.HomeMessage.{HomeMessage}
 
 -- the message that lies at the home of a request
@@ -92,6 +96,14 @@ IsOffering l k serve end = IsOffered l.outs l.inns k serve end
 -- each of these that was offered what belongs to it is so among the others
 abbrev pub StayOffered : List OutState → List InState → LinksData → Type 0
 StayOffered outs inns l = (k : ℕ) (serve : Bool) (end : Option ℕ) → IsOffered outs inns k serve end → IsOffering l k serve end
+
+-- the puts of link k go by this shape, behind those that it answered so
+abbrev pub IsShapedSo : LinksData → ℕ → Shape → List Answer → Type 0
+IsShapedSo l k shape so_far = TellsPacing l.outs k (paced shape so_far)
+
+-- the puts of each of these go on so among the others
+abbrev pub StayPaced : List OutState → LinksData → Type 0
+StayPaced outs l = (k : ℕ) (pacing : Pacing) → TellsPacing outs k pacing → TellsPacing l.outs k pacing
 
 -- the next put into a link isn't answered `Again`, and the last one was
 abbrev pub IsClear : List OutState → ℕ → Type 0

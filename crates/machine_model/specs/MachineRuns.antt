@@ -5,6 +5,7 @@ use lib.ListN.{get_elem?}
 use mathlib.Core.Option as core
 use Rattle.sock_words.specs.declared.kind.Kind.{Kind}
 use Rattle.sock_words.specs.declared.plain.Plan.{Plan}
+use Rattle.sock_words.specs.declared.shape.Shape.{Shape}
 use Rattle.sock_words.specs.KindText.{kind_text}
 use Rattle.brpc_model.specs.ReturnedLink.{LinkEnd}
 use Rattle.seat_programs.specs.Writings as heads
@@ -18,12 +19,13 @@ use Rattle.seat_programs.specs.ScriptSetupToEnding.{AreStill, is_ending}
 use Rattle.sock_io.specs.LinkHalves.{more_told}
 use Rattle.run_theorems.specs.call_owing.specs.LivesOfLinks.{ClosesInTime}
 use Rattle.run_theorems.specs.OfferedAtTakes.{AreOffered}
+use Rattle.run_theorems.specs.ShapedPuts.{AreShaped}
 use Rattle.run_theorems.specs.Heard.{as_told, as_taken, take_answers, heard_in, taken_in}
 use Rattle.machine_model.specs.declared.tick.On.{On}
 use Rattle.machine_model.specs.declared.tick.On.TheVariants as on
 use Rattle.machine_model.specs.declared.tick.Tick.{Tick}
 use Rattle.machine_model.specs.declared.tick.Tick.TheVariants.{Moved, Waits, Idle}
-use Rattle.machine_model.specs.MachineLinks.{Taken, Given, Agrees, AgreesGave, SoFar, AreAlwaysReady, TellClosing, IsOffering, StayOffered}
+use Rattle.machine_model.specs.MachineLinks.{Taken, Given, Agrees, AgreesGave, SoFar, AreAlwaysReady, TellClosing, IsOffering, StayOffered, IsShapedSo, StayPaced}
 use Rattle.machine_model.specs.Machines.{MachineState, SameGivens, READERS, table_of, core_with, ending_by}
 use Rattle.sock_words.specs.PackedWords.{call_id}
 
@@ -116,6 +118,10 @@ TickIs m c moment Idle = IsAtRest c moment.seat
 abbrev pub KeepOffers : MachineState → MachineState → Core → List Moment → Type 0
 KeepOffers old new c moments = (k : ℕ) (serve : Bool) (end : Option ℕ) → IsOffering old.links k serve end → AreOffered old.plan k serve end c moments × IsOffering new.links k serve end
 
+-- a link whose puts go by a shape answers each put of these ticks by it, and those behind them go on so
+abbrev pub KeepShapes : MachineState → MachineState → Core → List Moment → Type 0
+KeepShapes old new c moments = (k : ℕ) (shape : Shape) (so_far : List Answer) → IsShapedSo old.links k shape so_far → AreShaped old.plan k shape so_far c moments × IsShapedSo new.links k shape (so_far ++ heard_in old.plan c moments k)
+
 -- these ticks make the one machine of the other, where its links had taken and given this
 pub record Follows (old new : MachineState) (took : Taken) (gave : Given) (moments : List Moment) : Type 0 where
   pub answered : AreAnswered old.plan (core_with old took gave) moments
@@ -123,6 +129,7 @@ pub record Follows (old new : MachineState) (took : Taken) (gave : Given) (momen
   -- a link that tells whether its other end closed its half answers that it is closed only where it is finished
   pub closes : TellClosing old.links → ClosesInTime old.plan (core_with old took gave) moments
   pub offers : KeepOffers old new (core_with old took gave) moments
+  pub shapes : KeepShapes old new (core_with old took gave) moments
   pub so_far : SoFar new.links
   pub open so_far use {took as later, gave as later_gave, agrees, agrees_gave}
   pub core : core_with new later later_gave ≡ run old.plan (core_with old took gave) moments
@@ -207,6 +214,7 @@ pub record RanFirst (old new : MachineState) : Type 0 where
   pub steps : ℕ
   pub core : (took : Taken) (gave : Given) → Agrees old.links took → AgreesGave old.links gave → Agrees new.links took × AgreesGave new.links gave × (core_with new took gave ≡ run old.plan (core_with old took gave) (replicate steps (quiet 0)))
   pub offers : (took : Taken) (gave : Given) → Agrees old.links took → AgreesGave old.links gave → StayOffered old.links.outs old.links.inns new.links
+  pub shapes : StayPaced old.links.outs new.links
   pub still : (took : Taken) (gave : Given) → IsAtRest (core_with new took gave) 0
 
 -- rounds up to one that moved nothing, then the ending by seat 0, and such rounds again
@@ -225,6 +233,7 @@ pub record SettledWith (old new : MachineState) (took : Taken) (gave : Given) : 
   pub closes : TellClosing old.links → ClosesInTime old.plan (core_with old took gave) moments
   pub closes_again : TellClosing old.links → ClosesInTime old.plan ended final
   pub offers : (k : ℕ) (serve : Bool) (end : Option ℕ) → IsOffering old.links k serve end → AreOffered old.plan k serve end (core_with old took gave) moments × AreOffered old.plan k serve end ended final × IsOffering new.links k serve end
+  pub shapes : (k : ℕ) (shape : Shape) (so_far : List Answer) → IsShapedSo old.links k shape so_far → AreShaped old.plan k shape so_far (core_with old took gave) moments × AreShaped old.plan k shape (so_far ++ heard_in old.plan (core_with old took gave) moments k) ended final
   pub so_far : SoFar new.links
   pub open so_far use {took as later, gave as later_gave, agrees, agrees_gave}
   pub core : core_with new later later_gave ≡ run old.plan ended final

@@ -43,6 +43,7 @@ use Rattle.machine_ticks.proofs.LinksBehindSteps.{AsksUnfinished, made_links, ma
 use Rattle.machine_rules.proofs.CallWords.{called_behind}
 use Rattle.machine_ticks.proofs.ClosedWhereFinished.{made_closes, made_closed, read_links, read_closes, read_closed}
 use Rattle.machine_ticks.proofs.Offering.{made_offers, made_offering, read_offers, read_offering}
+use Rattle.machine_ticks.proofs.Shapes.{made_shapes, made_shaped, read_shapes, read_shaped}
 use Rattle.machine_ticks.proofs.MachineStepFitting.{paced_prop, client_next, client_may, client_asks, client_takes, client_slots, reader_next, reader_may, reader_slots}
 use Rattle.machine_ticks.proofs.JoiningRuns.{tells_as}
 use Rattle.machine_rules.proofs.MachineKeeping.{OutsKept, Keeps, kept_by, readers_paced, made_paced, step_keeps}
@@ -189,6 +190,11 @@ module _ (m fresh : MachineState) (room i : ℕ) (step : Step) (tick : Tick) (is
     always_ready = λ always_ready. (made_prompt m fresh i w.one w.one' step first answer made always_ready, tt);
     closes = λ tell. made_closes m fresh i w.one w.one' step m.plan c first answer made;
     offers = λ k serve end h. (made_offers m fresh i w.one w.one' step m.plan k serve end c first answer made, made_offering m fresh i w.one w.one' step k serve end h first answer made);
+    shapes = λ k shape so_far h.
+        let z = is_sized m is.sizes in let own : SeatState = state_of m.plan m.links took program i in (
+          made_shapes m fresh i w.one w.one' step k shape so_far h (is.closed enough) z.letters_are z.outs_are (few_seats m is.sizes) took gave agrees own (own_at took gave) first answer made next,
+          made_shaped m fresh i w.one w.one' step k shape so_far h m.plan c own (own_at took gave) first answer made next,
+        );
     so_far = s.so_far;
     core = s.core;
     shows = record {
@@ -301,6 +307,10 @@ module _ (m fresh : MachineState) (room k : ℕ) (step : ReadStep) (tick : Tick)
     offers = λ x serve end h. (
       read_offers m fresh k w.one w.one' x serve end h (is.closed enough) w.at read_sized.letters_are read_sized.inns_are read_few took gave agrees agrees_gave begins given_answer read_made,
       read_offering m fresh k w.one w.one' x serve end h begins given_answer read_made,
+    );
+    shapes = λ x shape so_far h. (
+      read_shapes m fresh i w.one w.one' x shape so_far m.plan c own (read_own took gave) begins given_answer read_made read_next,
+      read_shaped m fresh i w.one w.one' x shape so_far m.plan c own (read_own took gave) h begins given_answer read_made read_next,
     );
     so_far = s.so_far;
     core = s.core;

@@ -11,6 +11,7 @@ use mathlib.Core.Option.{Option, some, none, some-ne-none}
 use lib.ListN.{get_elem?}
 use Rattle.sock_words.specs.declared.kind.Kind.{Kind}
 use Rattle.sock_words.specs.declared.plain.Plan.{Plan}
+use Rattle.sock_words.specs.declared.shape.Shape.{Shape}
 use Rattle.brpc_model.specs.ReturnedLink.{LinkEnd, HalfAnswer, TakeAnswer}
 use Rattle.sock_io.specs.LinkHalves.{OutState, more_told}
 use Rattle.machine_model.specs.run_theorems.specs.LinkAnswers.{said_at}
@@ -18,13 +19,14 @@ use Rattle.machine_model.specs.run_theorems.specs.Heard.{as_told, as_taken, answ
 use Rattle.machine_model.specs.run_theorems.proofs.HeardRuns.{told_append, taken_append, heard_on, taken_on}
 use Rattle.machine_model.specs.run_theorems.specs.call_owing.specs.LivesOfLinks.{ClosesAt, ClosesInTime}
 use Rattle.machine_model.specs.run_theorems.specs.OfferedAtTakes.{OffersAt, AreOffered}
+use Rattle.machine_model.specs.run_theorems.specs.ShapedPuts.{ShapedAt, AreShaped}
 use Rattle.seat_programs.specs.Asides.{TakeBytes, Taking, Bytes, Nothing, NoMore, AtEnd, Closed, Broken}
 use Rattle.seat_programs.specs.Programs.{Program, Aside, Say, Sent, Rest, Keep, Retries}
 use Rattle.seat_programs.specs.Cores.{Core, SeatState}
 use Rattle.seat_programs.specs.Ticks.{Answer, Unasked, Moment, quiet, seats_of, taken, tick_with, ticked, run, IsAnswer, IsAnswered, AreAnswered, IsAlwaysReady, asked_link, broken_at, broken_in}
 use Rattle.seat_programs.specs.ScheduledRuns.{kind_in, IsAtRest}
 use Rattle.machine_model.specs.declared.tick.Tick.{Tick}
-use Rattle.machine_model.specs.MachineLinks.{LinksData, Taken, Given, Agrees, AgreesGave}
+use Rattle.machine_model.specs.MachineLinks.{LinksData, Taken, Given, Agrees, AgreesGave, IsShapedSo}
 use Rattle.seat_programs.specs.declared.task.Sizes.{Sizes}
 use Rattle.client_seats.specs.ClientSeatState.{SeatData, seat_program}
 use Rattle.reader_seats.specs.ReaderState.{ReaderData, reader_program}
@@ -219,6 +221,15 @@ pub offers_append : (p : Plan) (k : ℕ) (serve : std.Bool) (end : std.Option �
 offers_append p k serve end c [] ys first second = second
 offers_append p k serve end c (m ∷ ms) ys first second = (first.0, offers_append p k serve end (ticked p c m) ms ys first.1 second)
 
+-- ticks one behind another, of which each put of a link is answered by its shape
+pub shapes_append : (p : Plan) (k : ℕ) (shape : Shape) (so_far : List Answer) (c : Core) (xs ys : List Moment) → AreShaped p k shape so_far c xs → AreShaped p k shape (so_far ++ heard_in p c xs k) (run p c xs) ys → AreShaped p k shape so_far c (xs ++ ys)
+shapes_append p k shape so_far c [] ys first second = subst (λ (answers : List Answer). AreShaped p k shape answers c ys) (append-nil so_far) second
+shapes_append p k shape so_far c (m ∷ ms) ys first second = (
+  first.0,
+  shapes_append p k shape (so_far ++ heard_at c m k) (ticked p c m) ms ys first.1
+      (subst (λ (answers : List Answer). AreShaped p k shape answers (run p (ticked p c m) ms) ys) (sym (append_assoc so_far (heard_at c m k) (heard_in p (ticked p c m) ms k))) second),
+)
+
 module _ (p : Plan) where
   pub run_append : (c : Core) (xs ys : List Moment) → run p c (xs ++ ys) ≡ run p (run p c xs) ys
   run_append c xs ys = fold-append (ticked p) c xs ys
@@ -242,6 +253,7 @@ follows_none m took gave agrees agrees_gave = record {
   always_ready = λ h. tt;
   closes = λ h. tt;
   offers = λ k serve end h. (tt, h);
+  shapes = λ k shape so_far h. (tt, subst (IsShapedSo m.links k shape) (sym (append-nil so_far)) h);
   so_far = record { took = took; gave = gave; agrees = agrees; agrees_gave = agrees_gave };
   core = refl;
   shows = shows_none m m refl refl (λ k. refl) (λ k. refl);
@@ -261,6 +273,14 @@ module _ (a b c : MachineState) (took : Taken) (gave : Given) (xs ys : List Mome
     always_ready = λ always_ready. prompt_append xs ys (f.always_ready always_ready) (g.always_ready (links.always_ready always_ready));
     closes = λ tell. closes_append a.plan start xs ys (f.closes tell) (moved (λ p d. ClosesInTime p d ys) (g.closes (links.tell tell)));
     offers = λ k serve end h. let x = f.offers k serve end h in let y = g.offers k serve end x.1 in (offers_append a.plan k serve end start xs ys x.0 (moved (λ p d. AreOffered p k serve end d ys) y.0), y.1);
+    shapes = λ k shape so_far h.
+        let said : List Answer = so_far ++ heard_in a.plan start xs k in
+        let x = f.shapes k shape so_far h in
+        let y = g.shapes k shape said x.1 in (
+          shapes_append a.plan k shape so_far start xs ys x.0 (moved (λ p d. AreShaped p k shape said d ys) y.0),
+          subst (IsShapedSo c.links k shape) (append_assoc so_far (heard_in a.plan start xs k) (heard_in a.plan (run a.plan start xs) ys k) ∙ ap (λ (l : List Answer). so_far ++ l) (sym (heard_on a.plan start xs ys k)))
+              (moved (λ p d. IsShapedSo c.links k shape (said ++ heard_in p d ys k)) y.1),
+        );
     so_far = g.so_far;
     core = moved (λ p d. core_with c g.later g.later_gave ≡ run p d ys) g.core ∙ sym (run_append a.plan start xs ys);
     shows = shows_as a c (shows_join a b c links after f.shows (moved (λ p d. LinksShow b c (broken_in p d ys) (heard_in p d ys) (taken_in p d ys)) g.shows))
@@ -369,6 +389,22 @@ module _ (p : Plan) (c : Core) (i : ℕ) (rest : IsAtRest c i) where
   rests_taken (suc n) k = ap (λ (l : List Answer). l ++ taken_in p (ticked p c (quiet i)) (replicate n (quiet i)) k) (rest_taken c (quiet i) rest k)
       ∙ ap (λ (d : Core). taken_in p d (replicate n (quiet i)) k) (rests p c (quiet i) rest) ∙ rests_taken n k
 
+  -- nor puts it anything
+  rest_shaped : (k : ℕ) (shape : Shape) (so_far : List Answer) (answer : Answer) (program : Program) → kind_in program ≡ None → ShapedAt p k shape so_far c answer (first_step program)
+  rest_shaped k shape so_far answer Rest none_ = tt
+  rest_shaped k shape so_far answer (Say o outcome next) none_ = tt
+  rest_shaped k shape so_far answer (Sent o next) none_ = tt
+  rest_shaped k shape so_far answer (Keep r next) none_ = tt
+  rest_shaped k shape so_far answer (Retries requests after) none_ = tt
+  rest_shaped k shape so_far answer _ none_ = absurd (none-some _ (sym none_))
+
+  pub rests_shaped : (k : ℕ) (shape : Shape) (n : ℕ) (so_far : List Answer) → AreShaped p k shape so_far c (replicate n (quiet i))
+  rests_shaped k shape zero so_far = tt
+  rests_shaped k shape (suc n) so_far = (
+    λ seat at. rest_shaped k shape so_far Unasked seat.program (ap (λ (o : Option SeatState). elim o as (λ o. std.Option Kind) [ none ↦ None | some s ↦ kind_in s.program ]) (sym at) ∙ rest),
+    subst (λ (d : Core). AreShaped p k shape (so_far ++ heard_at c (quiet i) k) d (replicate n (quiet i))) (sym (rests p c (quiet i) rest)) (rests_shaped k shape n (so_far ++ heard_at c (quiet i) k)),
+  )
+
   pub rests_answered : (n : ℕ) → AreAnswered p c (replicate n (quiet i))
   rests_answered zero = tt
   rests_answered (suc n) = (rest_answered c i rest, subst (λ (d : Core). AreAnswered p d (replicate n (quiet i))) (sym (rests p c (quiet i) rest)) (rests_answered n))
@@ -391,6 +427,10 @@ follows_rest m took gave i n agrees agrees_gave rest = record {
   always_ready = λ h. quiet_prompt n i;
   closes = λ h. quiet_closes m.plan (core_with m took gave) n i;
   offers = λ k serve end h. (quiet_offers m.plan k serve end (core_with m took gave) n i, h);
+  shapes = λ k shape so_far h. (
+    rests_shaped m.plan (core_with m took gave) i rest k shape n so_far,
+    subst (IsShapedSo m.links k shape) (sym (ap (λ (l : List Answer). so_far ++ l) (rests_heard m.plan (core_with m took gave) i rest n k) ∙ append-nil so_far)) h,
+  );
   so_far = record { took = took; gave = gave; agrees = agrees; agrees_gave = agrees_gave };
   core = sym (rests_on m.plan (core_with m took gave) i rest n);
   shows = shows_none m m refl (quiet_broken m.plan (core_with m took gave) n i) (rests_heard m.plan (core_with m took gave) i rest n) (rests_taken m.plan (core_with m took gave) i rest n);

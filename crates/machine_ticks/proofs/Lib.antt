@@ -3,6 +3,7 @@ pub mod LinksBehindSteps
 pub mod Takings
 pub mod ClosedWhereFinished
 pub mod Offering
+pub mod Shapes
 pub mod RestingTicks
 pub mod MachineStepFitting
 pub mod ReadLengths

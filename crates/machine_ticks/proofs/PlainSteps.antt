@@ -29,7 +29,7 @@ use Rattle.client_seats.specs.ClientSeatState.{SeatData, around, seat_program}
 use Rattle.reader_seats.specs.ReaderState.{ReaderData, reader_program}
 use Rattle.machine_model.specs.declared.tick.Tick.{Tick}
 use Rattle.machine_model.specs.declared.tick.Tick.TheVariants.{Idle}
-use Rattle.machine_model.specs.MachineLinks.{Given, AgreesGave}
+use Rattle.machine_model.specs.MachineLinks.{Given, AgreesGave, StayPaced}
 use Rattle.machine_model.specs.Machines.{MachineState, READERS, IsMachine, table_of, machine_sizes, core_with}
 use Rattle.machine_model.specs.MachineSteps.{ReadyAt, StandsAt, NextIs, HasNoStep, SameBase, MadeFirst}
 use Rattle.machine_model.specs.ReadingSteps.{HasNoRead}
@@ -39,6 +39,7 @@ use Rattle.machine_ticks.proofs.Advancing.{is_paced, base}
 use Rattle.machine_ticks.proofs.MachineStepFitting.{client_next, client_may}
 use Rattle.machine_model.proofs.MachineLengths.{is_sized, few_seats}
 use Rattle.machine_ticks.proofs.JoiningRuns.{rests}
+use Rattle.machine_ticks.proofs.Shapes.{paced_call}
 use Rattle.machine_ticks.proofs.RestingTicks.{Rests, beyond_rests}
 use Rattle.machine_rules.proofs.Seatings.{seat_at, read_at}
 use Rattle.machine_model.proofs.TableRoom.{IsCall, after_none, only_calls}
@@ -141,7 +142,7 @@ module _ (m fresh : MachineState) (room : ℕ) (step : Step) (tick : Tick) (is :
   abbrev StaysPlain : SeatData → Type 0
   StaysPlain seat = AsksNone (seat_program (machine_sizes m) seat) × (seat.waiting ≡ [])
 
-  by_first : (f : First) → IsCall f → MadeFirst (table_of m) (table_of fresh) 0 w.one w.one' step f w.told.answer → StaysPlain w.one' × (fresh.ends ≡ m.ends) × ((gave : Given) → AgreesGave m.links gave → AgreesGave fresh.links gave)
+  by_first : (f : First) → IsCall f → MadeFirst (table_of m) (table_of fresh) 0 w.one w.one' step f w.told.answer → StaysPlain w.one' × (fresh.ends ≡ m.ends) × StayPaced m.links.outs fresh.links × ((gave : Given) → AgreesGave m.links gave → AgreesGave fresh.links gave)
   by_first (OfTable call) c x =
       let goes = x.1.goes in let found : ℕ = found_at m.words (word_of m.plan call) in let none_ = (plain w.one w.at).1 in
       let r = resolved_none (after_word program found) (after_none program found (plain w.one w.at).0) in (
@@ -150,6 +151,7 @@ module _ (m fresh : MachineState) (room : ℕ) (step : Step) (tick : Tick) (is :
           goes.waiting ∙ ap (λ (ws : List Retry). still_waiting ws (after_word program found)) none_ ∙ r.1,
         ),
         x.1.ends,
+        λ k pacing h. paced_call m.links fresh.links k pacing h call x.1.outs,
         λ gave agrees. gives_same m.links fresh.links gave goes.base.inns agrees,
       )
   by_first _ c x = absurd c
@@ -168,14 +170,15 @@ module _ (m fresh : MachineState) (room : ℕ) (step : Step) (tick : Tick) (is :
   first_told = (
     stays_plain,
     (by_first first is_call w.told.makes.is).1,
+    (by_first first is_call w.told.makes.is).2,
     λ took gave agrees agrees_gave. let q = quiet_by m fresh 0 w.one w.one' w.at w.all w.readers (few_seats m is.sizes) (is_sized m is.sizes) (is_paced m room is enough 0 w.one w.at) took agrees gave agrees_gave step w.told.answer is_call next
         (client_may m room is enough 0 w.one w.at step n) w.told.makes.is in
-        (q.0, (by_first first is_call w.told.makes.is).2 gave agrees_gave, q.1),
+        (q.0, (by_first first is_call w.told.makes.is).3 gave agrees_gave, q.1),
   )
 
 -- without a step left it makes none
 pub idle_first : (m : MachineState) → Rests m 0 → IsPlain m → TickedFirst m m
-idle_first m rest plain = (plain, refl, λ took gave agrees agrees_gave. (agrees, agrees_gave, sym (rests m.plan (core_with m took gave) (quiet 0) (rest took gave))))
+idle_first m rest plain = (plain, refl, λ k pacing h. h, λ took gave agrees agrees_gave. (agrees, agrees_gave, sym (rests m.plan (core_with m took gave) (quiet 0) (rest took gave))))
 
 -- nor does it leave less
 pub idle_leaves : (m : MachineState) → Leaves Idle m m

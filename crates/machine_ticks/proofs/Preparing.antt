@@ -15,13 +15,14 @@ use Rattle.seat_programs.specs.Cores.{Core, SeatState}
 use Rattle.seat_programs.specs.Ticks.{Answer, Moment, AreAnswered, run, broken_in}
 use Rattle.machine_model.specs.run_theorems.specs.call_owing.specs.LivesOfLinks.{ClosesInTime}
 use Rattle.machine_model.specs.run_theorems.specs.OfferedAtTakes.{AreOffered}
+use Rattle.machine_model.specs.run_theorems.specs.ShapedPuts.{AreShaped}
 use Rattle.machine_model.specs.run_theorems.specs.Heard.{heard_in, taken_in}
 use Rattle.call_slots.specs.CallSlotState.{calls_with}
 use Rattle.client_seats.specs.ClientSeatState.{SeatData, seat_program}
 use Rattle.reader_seats.specs.ReaderState.{ReaderData}
 use Rattle.machine_model.specs.declared.tick.Tick.{Tick}
 use Rattle.machine_model.specs.declared.tick.Tick.TheVariants.{Moved, Waits, Idle}
-use Rattle.machine_model.specs.MachineLinks.{LinksData, Taken, Given, IsPaced}
+use Rattle.machine_model.specs.MachineLinks.{LinksData, Taken, Given, IsPaced, IsShapedSo}
 use Rattle.machine_model.specs.Machines.{MachineState, READERS, IsMachine, IsSoundMachine, HasSizes, KeepsClosed, ArePaced, machine_sizes, table_of, between, resting, clients_with, readers_with, state_of, given_by, core_with}
 use Rattle.machine_model.specs.ReadingSteps.{IsCutShort}
 use Rattle.machine_model.specs.MachineRuns.{SameTable, SameLinks, LinksShow, TickIs, Follows, Ticked}
@@ -54,6 +55,9 @@ module _ (old new : MachineState) (ss : List SeatData) (same : (took : Taken) (g
     always_ready = f.always_ready;
     closes = λ tell. subst (λ (c : Core). ClosesInTime old.plan c ms) e (f.closes tell);
     offers = λ k serve end h. let x = f.offers k serve end h in (subst (λ (c : Core). AreOffered old.plan k serve end c ms) e x.0, x.1);
+    shapes = λ k shape so_far h.
+        let x = f.shapes k shape so_far h in
+        (subst (λ (c : Core). AreShaped old.plan k shape so_far c ms) e x.0, subst (λ (c : Core). IsShapedSo new.links k shape (so_far ++ heard_in old.plan c ms k)) e x.1);
     so_far = f.so_far;
     core = f.core ∙ ap (λ (c : Core). run old.plan c ms) e;
     shows = subst (λ (c : Core). LinksShow old new (broken_in old.plan c ms) (heard_in old.plan c ms) (taken_in old.plan c ms)) e (shows_before f.shows);

@@ -59,6 +59,8 @@ impl<L: Linker + Drop> Linker for Noting<L> {
 
     ghost tells_in = { L.tells_in };
 
+    ghost goes_by_shape = { L.goes_by_shape };
+
     fn open(&mut self, spec: &LinkSpec) -> Result<Ends<L::O, L::I, L::P>, OpenFault> {
         if self.fail == 1 {
             self.failed = self.failed.saturating_add(1);

@@ -4,7 +4,7 @@ use Rattle.sock_io.specs.declared.link.LinkSpec.{LinkSpec}
 use Rattle.sock_io.specs.declared.link.Mode.{Mode}
 use Rattle.sock_io.specs.declared.link.Mode.TheVariants as mode
 use Rattle.sock_io.specs.sock_words.specs.declared.shape.Shape.{Shape}
-use Rattle.sock_io.specs.LinkHalves.{IsFresh, IsNewOffer}
+use Rattle.sock_io.specs.LinkHalves.{IsFresh, IsNewOffer, new_pacing}
 use Rattle.sock_io.specs.MeetingOnOneThread.{AreEnds, IsAskedPeer}
 use Rattle.sock_io.specs.Peer.{IsNewPeer}
 use Rattle.net_link.specs.declared.tcp_half.TcpHalf.TheVariants.{Opened, Accepted}
@@ -44,6 +44,10 @@ is_kind OverTcp InMemory = false
 is_kind OverTcp OverRings = false
 is_kind OverTcp OverTcp = true
 
+-- links in memory alone answer each put as the shape says that was asked for: the halves inside the other ones may take less
+abbrev pub goes_by_shape_in_mode : Mode → Bool
+goes_by_shape_in_mode asked = is_kind InMemory (kind_asked asked)
+
 -- whether each of these links was asked to be of this kind
 abbrev pub are_kind : Kind → List LinkSpec → Bool
 are_kind k [] = true
@@ -73,7 +77,7 @@ shape_out (out.Tcp (Accepted half)) = None
 
 -- The ends of a link that was opened just now: its halves are of the kind and the shape that were asked for, have this number, and took, gave and
 -- answered nothing; nor did its other end, which is what was asked for, and belongs to them; over rings what that offers is told later; and a link in memory
--- never asks to be called again.
+-- answers its puts as the shape says, and never asks to be called again.
 pub record IsOpened (number : ℕ) (spec : LinkSpec) (out : ProgOut) (peer : ProgPeer) (inn : ProgIn) : Type 0 where
   pub kind : (kind_out out ≡ kind_asked spec.mode) × (kind_in inn ≡ kind_asked spec.mode)
   pub shape : shape_out out ≡ Some spec.shape
@@ -83,4 +87,5 @@ pub record IsOpened (number : ℕ) (spec : LinkSpec) (out : ProgOut) (peer : Pro
   pub one : AreEnds (prog_out out) (prog_peer peer) (prog_in inn)
   pub other : IsAskedPeer spec (prog_peer peer)
   pub tells : tells_in_mode spec.mode ≡ true → ((prog_in inn).way ≢ []) × ((prog_in inn).offer ≡ None) × ((prog_peer peer).present ≡ true)
+  pub shaped : goes_by_shape_in_mode spec.mode ≡ true → (prog_out out).pacing ≡ Some (new_pacing spec)
   pub always_ready : spec.mode ≡ mode.Loop → (prog_out out).always_ready ≡ true

@@ -2,7 +2,7 @@ ghost use Rattle.std.specs.Prelude.{◌≡◌, ◌≢◌, ◌+◌, ◌≤◌, �
 ghost use Rattle.sock_io.specs.FaultCauses.{OpenCause, Rose};
 ghost use Rattle.sock_io.specs.LinkHalves.{MayOpen, end_of};
 ghost use Rattle.prog_link.specs.AnyLinkHalves.{prog_in, prog_out};
-ghost use Rattle.prog_link.specs.AnyKindLinker.{are_kind, is_kind, IsOpened, InMemory, OverRings, OverTcp, kind_asked, tells_in_mode};
+ghost use Rattle.prog_link.specs.AnyKindLinker.{are_kind, is_kind, IsOpened, InMemory, OverRings, OverTcp, goes_by_shape_in_mode, kind_asked, tells_in_mode};
 
 use crate::prog_in::ProgIn;
 use crate::prog_out::ProgOut;
@@ -214,6 +214,8 @@ impl<N: Net<Stream = TcpStream, Listener = TcpListener> + Drop> Linker for ProgL
     type P = ProgPeer;
 
     ghost tells_in = { tells_in_mode };
+
+    ghost goes_by_shape = { goes_by_shape_in_mode };
 
     fn open(&mut self, spec: &LinkSpec) -> Result<Link, OpenFault>
         requires { MayOpen self.old.asked spec.now }

@@ -5,10 +5,10 @@ use mathlib.Core.Option as core
 use lib.ListN.{get_elem?}
 use Rattle.sock_words.specs.declared.kind.Kind.{Kind}
 use Rattle.sock_words.specs.declared.plain.Plan.{Plan}
-use Rattle.brpc_model.specs.Items.{Item}
+use Rattle.brpc_model.specs.Items.{Item, Shape}
 use Rattle.brpc_model.specs.Operations.{Turn, clients}
 use Rattle.seat_programs.specs.Cores.{Core, SeatState}
-use Rattle.seat_programs.specs.Ticks.{Moment, quiet, run, AreAnswered, IsAlwaysReady, broken_in}
+use Rattle.seat_programs.specs.Ticks.{Answer, Moment, quiet, run, AreAnswered, IsAlwaysReady, broken_in}
 use Rattle.seat_programs.specs.ScheduledRuns.{IsAtRest, Scheduled, from_to, kind_in}
 use Rattle.seat_programs.specs.ScriptSetupToEnding as scripts
 use Rattle.seat_programs.specs.ScriptSetupToEnding.{IsRunWithCalls, Settles, AreStill, round_of, ticks_of, opened, set_up, is_ending, ending}
@@ -20,14 +20,15 @@ use Rattle.calm_runs.specs.Below.run_theorems.proofs.RunLengths.{opened_sized, r
 use Rattle.calm_runs.specs.Below.run_theorems.specs.Heard.{heard_in, taken_in, heard_of, taken_of}
 use Rattle.calm_runs.specs.Below.run_theorems.specs.OfferedAtTakes.{AreOffered}
 use Rattle.calm_runs.specs.Below.run_theorems.specs.OfferedRuns.{OffersInRun}
+use Rattle.calm_runs.specs.Below.run_theorems.specs.ShapedPuts.{AreShaped, ShapedInRun}
 use Rattle.calm_runs.specs.Below.run_theorems.proofs.HeardRuns.{heard_on, taken_on}
 use Rattle.calm_runs.specs.Below.script_facts.proofs.ScriptSizes.{keeps_limits}
-use Rattle.machine_model.specs.MachineLinks.{Taken, Given, AreAlwaysReady, TellClosing, IsOffering}
+use Rattle.machine_model.specs.MachineLinks.{Taken, Given, AreAlwaysReady, TellClosing, IsOffering, IsShapedSo}
 use Rattle.machine_model.specs.Machines.{MachineState, core_with, ending_by}
 use Rattle.machine_model.specs.MachineRuns as rounds
 use Rattle.machine_model.specs.MachineRuns.{LinksShow, SettlesBy, SettledWith, Settled, round_by}
 use Rattle.sock_core.specs.machine_ticks.proofs.RestingTicks.{rest_anyhow}
-use Rattle.sock_core.specs.machine_ticks.proofs.JoiningRuns.{run_append, answered_append, closes_append, offers_append, prompt_append, broken_append, shows_join, shows_as}
+use Rattle.sock_core.specs.machine_ticks.proofs.JoiningRuns.{run_append, answered_append, closes_append, offers_append, shapes_append, prompt_append, broken_append, shows_join, shows_as}
 use Rattle.script_run.specs.RunOutcomeCauses.{broken_of}
 use Rattle.sock_core.specs.MachineBeginning.{IsMade}
 use Rattle.script_run.specs.Played.{IsPlayable, PlayedWith, HasPlayed, HasRun}
@@ -176,6 +177,19 @@ module _ (script : List Item) (turns : List Turn) (start mid end_ : MachineState
     y.2,
   )
 
+  shapes : (k : ℕ) (shape : Shape) → IsShapedSo start.links k shape [] → ShapedInRun script turns (core_with end_ rest.later rest.later_gave) run_of k shape
+  shapes k shape h =
+      let x = first.follows.shapes k shape [] h in
+      let y = rest.shapes k shape (heard_in start.plan c0 now k) x.1 in
+      let now_is : heard_in start.plan c0 now k ≡ heard_in p (set_up script n) now k = ap (λ (q : Plan). heard_in q c0 now k) made.plan ∙ ap (λ (c : Core). heard_in p c now k) made.setup.1 in
+      let later_is : heard_in mid.plan (core_with mid t g) later k ≡ heard_in p (run p (set_up script n) now) later k = ap (λ (q : Plan). heard_in q (core_with mid t g) later k) plan ∙ ap (λ (c : Core). heard_in p c later k) middle in record {
+        played = shapes_append p k shape [] (set_up script n) now later (set (λ q c. AreShaped q k shape [] c now) x.0)
+            (subst (λ (so_far : List Answer). AreShaped p k shape so_far (run p (set_up script n) now) later) now_is (moved (λ q c. AreShaped q k shape (heard_in start.plan c0 now k) c later) y.0));
+        final = subst (λ (so_far : List Answer). AreShaped p k shape so_far rest.ended final)
+            (ap (λ (l : List Answer). l ++ heard_in mid.plan (core_with mid t g) later k) now_is ∙ ap (λ (l : List Answer). heard_in p (set_up script n) now k ++ l) later_is ∙ sym (heard_on p (set_up script n) now later k))
+            (subst (λ (q : Plan). AreShaped q k shape (heard_in start.plan c0 now k ++ heard_in mid.plan (core_with mid t g) later k) rest.ended final) plan y.1);
+      }
+
   -- what the links show
   shows : LinksShow start end_ (broken_of run_of) (heard_of run_of) (taken_of run_of)
   shows = shows_as start end_
@@ -186,7 +200,7 @@ module _ (script : List Item) (turns : List Turn) (start mid end_ : MachineState
       (λ k. first_two (taken_in p (set_up script n) now k) (taken_in p (run p (set_up script n) now) later k) (taken_in p rest.ended final k) (taken_on p (set_up script n) now later k))
 
   pub has_run : HasRun script turns start end_
-  has_run = record { so_far = rest.so_far; run = run_of; closes = closes; offers = offers; shows = shows }
+  has_run = record { so_far = rest.so_far; run = run_of; closes = closes; offers = offers; shapes = shapes; shows = shows }
 
 pub run_answered : {T E : Type 0} (script : List Item) (turns : List Turn) (start mid end_ : MachineState) (r : Result T E) → IsMade script start → HasPlayed (λ c. Scheduled start.plan c turns) start mid → OnOk r (Settled mid end_) →
     OnOk r (AreAlwaysReady start.links → HasRun script turns start end_)

@@ -14,6 +14,7 @@ use Rattle.brpc_model.specs.ReturnedLink.{LinkEnd, HalfAnswer, TakeAnswer}
 use Rattle.brpc_model.specs.Operations.{Turn, link_names, link_shapes, operations}
 use Rattle.brpc_model.specs.LinkFailureCauses.{HasFault}
 use Rattle.brpc_model.specs.PlaceWords.{ArePlaces, HasEachOutcome, IsReportText, outcomes_from, AreTold}
+use Rattle.sock_io.specs.declared.link.Mode.{Mode}
 use Rattle.sock_io.specs.declared.link.Mode.TheVariants as mode
 use Rattle.sock_io.specs.LinkHalves.{OutState, InState, more_told}
 use Rattle.sock_model.specs.declared.home.Home.TheVariants.{Link}
@@ -24,6 +25,7 @@ use Rattle.seat_programs.specs.Tasks.{plan_of}
 use Rattle.run_laws.specs.programs_allowed.proofs.RetryAllowed.{retries_go}
 use Rattle.calm_runs.specs.Below.run_theorems.specs.Heard.{as_told, as_taken, take_answers, heard_of, taken_of, heard_takes}
 use Rattle.calm_runs.specs.Below.run_theorems.specs.OfferedRuns.{OffersInRun}
+use Rattle.calm_runs.specs.Below.run_theorems.specs.ShapedPuts.{ShapedInRun}
 use Rattle.calm_runs.specs.Below.run_theorems.specs.RunIsOver.{IsAllOver}
 use Rattle.calm_runs.specs.Below.run_theorems.proofs.WholeRunEnded.{run_all_over}
 use Rattle.calm_runs.specs.Below.run_theorems.proofs.GaveTakeByTake.{gave_heard}
@@ -89,7 +91,7 @@ module _ (bytes : List ℕ) (script : List Item) (turns : List Turn) (start m : 
     (ran : HasRun script turns start m) (plan : m.plan ≡ plan_of script) (tell : TellClosing start.links) (told_closed : AllByRecursion (λ (e : LinkEnd). e.closed ≢ None) start.ends)
     (outs : map (λ (o : OutState). o.took) m.links.outs ≡ map (λ (e : LinkEnd). e.took) m.ends) (counts : map (λ (i : InState). i.gave) m.links.inns ≡ map (λ (e : LinkEnd). e.gave_count) m.ends)
     (given : map (λ (i : InState). i.gave_bytes) m.links.inns ≡ map (λ (e : LinkEnd). e.gave) m.ends) (letters : length m.letters ≡ m.plan.requests)
-    (Offering : Type 0) (asked : Offering → AreAsked (specs_of mode.Loop script) start.links.outs start.links.inns) where
+    (Offering : Type 0) (goes : Mode → Bool) (in_memory : Offering → goes mode.Loop ≡ true) (asked : Offering → AreAsked goes (specs_of mode.Loop script) start.links.outs start.links.inns) where
   abbrev end_core : Core
   end_core = core_with m ran.took ran.gave
 
@@ -178,7 +180,11 @@ module _ (bytes : List ℕ) (script : List Item) (turns : List Turn) (start m : 
   -- ## What they were offered
 
   offered : Offering → (k : ℕ) (shape : Shape) → slice_get (link_shapes script) k ≡ Some shape → OffersInRun script turns end_core ran.run k shape.serve shape.end × IsOffering m.links k shape.serve shape.end
-  offered offering k shape at = ran.offers k shape.serve shape.end (asked offering k (spec_of mode.Loop shape) (asked_at mode.Loop script k shape at))
+  offered offering k shape at = ran.offers k shape.serve shape.end (asked offering k (spec_of mode.Loop shape) (asked_at mode.Loop script k shape at)).0
+
+  -- and how they answered
+  shaped : Offering → (k : ℕ) (shape : Shape) → slice_get (link_shapes script) k ≡ Some shape → ShapedInRun script turns end_core ran.run k shape
+  shaped offering k shape at = ran.shapes k shape ((asked offering k (spec_of mode.Loop shape) (asked_at mode.Loop script k shape at)).1 (in_memory offering))
 
   tells : Offering → (k : ℕ) (e : LinkEnd) → slice_get m.ends k ≡ Some e → IsSome e.took
   tells offering k e at =
@@ -201,6 +207,7 @@ module _ (bytes : List ℕ) (script : List Item) (turns : List Turn) (start m : 
     idle = λ callless. clients_idle bytes script reads callless turns end_core ran.run;
     over = over;
     offers = λ offering k shape at. (offered offering k shape at).0;
+    shapes = shaped;
     closes = λ offering. ran.closes tell;
     shows = λ offering k e at. shows k e (ap (λ (es : List LinkEnd). slice_get es k) (sym ends_same) ∙ at);
     tells = λ offering k e at. tells offering k e (ap (λ (es : List LinkEnd). slice_get es k) (sym ends_same) ∙ at);
@@ -255,10 +262,10 @@ pub text_answered : {T E F S P C : Type 0} (shows : Print) (items : T → List �
     map (λ (i : InState). i.gave_bytes) m.links.inns ≡ map (λ (e : LinkEnd). e.gave) m.ends → length m.letters ≡ m.plan.requests →
     outcomes ≡ m.outcomes → words ≡ place_words m.plan m.words → ends ≡ m.ends → back ≡ ends →
     (IsOk r → IsOk q) → (P → AreAlwaysReady start.links) → (C → TellClosing start.links) → (C → AllByRecursion (λ (e : LinkEnd). e.closed ≢ None) start.ends) →
-    (Offering : Type 0) → (Offering → AreAsked (specs_of mode.Loop script) start.links.outs start.links.inns) → OnOk q (AreAlwaysReady start.links → HasRun script turns start m) → OnOk q ((m.plan ≡ start.plan) × (m.ids.plan ≡ start.ids.plan)) →
+    (Offering : Type 0) (goes : Mode → Bool) → (Offering → goes mode.Loop ≡ true) → (Offering → AreAsked goes (specs_of mode.Loop script) start.links.outs start.links.inns) → OnOk q (AreAlwaysReady start.links → HasRun script turns start m) → OnOk q ((m.plan ≡ start.plan) × (m.ids.plan ≡ start.ids.plan)) →
     IfOk r (λ t. ArePlaces words → HasEachOutcome words outcomes → (took : List (List ℕ)) × AreTold ends took × IsPrintOf shows script outcomes words took (items t)) →
     IfOk r (λ t. P → C → IsPrinted Offering shows script turns (items t) back)
-text_answered shows items (Err e) q bytes script turns start m outcomes words ends back reads made untouched many same outs counts given letters outcomes_are words_are ends_same back_is played always_ready tell closed Offering asked ran sized told = tt
-text_answered shows items (Ok t) (Err e) bytes script turns start m outcomes words ends back reads made untouched many same outs counts given letters outcomes_are words_are ends_same back_is played always_ready tell closed Offering asked ran sized told = let same = played refl in absurd (cc)
-text_answered shows items (Ok t) (Ok done) bytes script turns start m outcomes words ends back reads made untouched many same outs counts given letters outcomes_are words_are ends_same back_is played always_ready tell closed Offering asked ran sized told =
-    λ p c. subst (IsPrinted Offering shows script turns (items t)) (sym back_is) (printed_is bytes script turns start m reads untouched many same (ran (always_ready p)) (sized.0 ∙ made.plan) (tell c) (closed c) outs counts given letters Offering asked outcomes words ends outcomes_are words_are ends_same shows (items t) told)
+text_answered shows items (Err e) q bytes script turns start m outcomes words ends back reads made untouched many same outs counts given letters outcomes_are words_are ends_same back_is played always_ready tell closed Offering goes in_memory asked ran sized told = tt
+text_answered shows items (Ok t) (Err e) bytes script turns start m outcomes words ends back reads made untouched many same outs counts given letters outcomes_are words_are ends_same back_is played always_ready tell closed Offering goes in_memory asked ran sized told = let same = played refl in absurd (cc)
+text_answered shows items (Ok t) (Ok done) bytes script turns start m outcomes words ends back reads made untouched many same outs counts given letters outcomes_are words_are ends_same back_is played always_ready tell closed Offering goes in_memory asked ran sized told =
+    λ p c. subst (IsPrinted Offering shows script turns (items t)) (sym back_is) (printed_is bytes script turns start m reads untouched many same (ran (always_ready p)) (sized.0 ∙ made.plan) (tell c) (closed c) outs counts given letters Offering goes in_memory asked outcomes words ends outcomes_are words_are ends_same shows (items t) told)

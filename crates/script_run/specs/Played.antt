@@ -20,10 +20,11 @@ use Rattle.calm_runs.specs.Below.report_fits.specs.ScriptLinkEnds.{AreEndsOf}
 use Rattle.run_laws.specs.RunLaws.{KeepsLaws}
 use Rattle.sock_io.specs.LinkHalves.{InState}
 use Rattle.calm_runs.specs.Below.call_owing.specs.LivesOfLinks.{ClosesInRun}
-use Rattle.machine_model.specs.MachineLinks.{Taken, Given, SoFar, TellClosing, IsOffering}
+use Rattle.machine_model.specs.MachineLinks.{Taken, Given, SoFar, TellClosing, IsOffering, IsShapedSo}
 use Rattle.machine_model.specs.Machines.{MachineState, core_with}
 use Rattle.calm_runs.specs.Below.run_theorems.specs.Heard.{as_told, as_taken, take_answers, heard_of, taken_of, heard_takes}
 use Rattle.calm_runs.specs.Below.run_theorems.specs.OfferedRuns.{OffersInRun}
+use Rattle.calm_runs.specs.Below.run_theorems.specs.ShapedPuts.{ShapedInRun}
 use Rattle.calm_runs.specs.Below.run_theorems.specs.RunIsOver.{IsAllOver}
 use Rattle.machine_model.specs.MachineRuns.{ShowsTaking, LinksShow, MadeByTicks, Made}
 use Rattle.machine_model.specs.Driving.{FirstRests}
@@ -74,6 +75,8 @@ pub record HasRun (script : List Item) (turns : List Turn) (start m : MachineSta
   pub closes : TellClosing start.links → ClosesInRun script turns (core_with m took gave) run
   -- a link that was offered what belongs to it tells so in each take, and is offered it in the end
   pub offers : (k : ℕ) (serve : Bool) (end : Option ℕ) → IsOffering start.links k serve end → OffersInRun script turns (core_with m took gave) run k serve end × IsOffering m.links k serve end
+  -- a link whose puts go by a shape from the first one on answers each put of the run by it
+  pub shapes : (k : ℕ) (shape : Shape) → IsShapedSo start.links k shape [] → ShapedInRun script turns (core_with m took gave) run k shape
   pub shows : LinksShow start m (broken_of run) (heard_of run) (taken_of run)
   pub open shows use *
 
@@ -84,7 +87,8 @@ pub record AreHeard (ends : List LinkEnd) (heard taken : ℕ → List Answer) : 
   pub each_take : (k : ℕ) (e : LinkEnd) → slice_get ends k ≡ Some e → IfSome e.takes (λ takes. takes ≡ take_answers (as_taken (taken k)))
   pub no_take_beyond : (k : ℕ) → length ends ≤ k → taken k ≡ []
 
--- a run of the script by these lines, over the links that were given back; where they tell what they took, gave and were offered, what they were offered too
+-- a run of the script by these lines, over the links that were given back; where they tell what they took, gave and were offered, and go by their shapes,
+-- what they were offered and how they answered too
 pub record IsWholeRun (Offering : Type 0) (script : List Item) (turns : List Turn) (ends : List LinkEnd) : Type 0 where
   pub core : Core
   pub run : IsRunWithCalls script turns core
@@ -98,6 +102,8 @@ pub record IsWholeRun (Offering : Type 0) (script : List Item) (turns : List Tur
   pub over : IsAllOver script core
   -- at each take a link was offered what belongs to it, by what its `open` asks
   pub offers : Offering → (k : ℕ) (shape : Shape) → slice_get (link_shapes script) k ≡ Some shape → OffersInRun script turns core run k shape.serve shape.end
+  -- and each put into it was answered as the shape says that its `open` asks for
+  pub shapes : Offering → (k : ℕ) (shape : Shape) → slice_get (link_shapes script) k ≡ Some shape → ShapedInRun script turns core run k shape
   -- it answered that it was closed only where it was finished
   pub closes : Offering → ClosesInRun script turns core run
   -- it shows what its reading half answered, and tells what it took

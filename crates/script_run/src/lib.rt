@@ -5,7 +5,8 @@
 //! that of a run of the script by those lines of a schedule, over the links given back (`IsRunText`, specs/Played).
 //! That run keeps the laws of the plain model (`KeepsLaws` of `run_laws`), each outcome has its cause (`HasCauses`),
 //! what came late is only what did (`CameLate`), and in the end all is over (`IsAllOver`). Where links tell what they
-//! are offered, each take was offered what belongs to its link (`OffersInRun`). Every link that was opened is given
+//! are offered, each take was offered what belongs to its link (`OffersInRun`),
+//! and each put was answered as the options of its `open` say (`ShapedInRun`). Every link that was opened is given
 //! back, in order; `OpenFault::Failed` comes only where the linker's count rose, and then all are untouched.
 #![tactic(auto)]
 

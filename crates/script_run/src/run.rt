@@ -35,7 +35,7 @@ pub fn run_script<L: Linker>(
     requires pieces { list_all has_piece script ≡ true }
     requires asked { (L.state links.old).asked ≡ [] }
     requires back { (L.state links.old).back ≡ [] }
-    ensures text { IfOk result (λ text. (L.state links.old).always_ready ≡ true → TellClosed L.I.state → IsPrinted (TellOffers L.O.state L.I.state) print script (turns_of script schedule) text.items (L.state links.new).back) }
+    ensures text { IfOk result (λ text. (L.state links.old).always_ready ≡ true → TellClosed L.I.state → IsPrinted (TellOffers L.goes_by_shape L.O.state L.I.state) print script (turns_of script schedule) text.items (L.state links.new).back) }
     ensures unopened { IsErrOf result OpenFault.Failed → AreUntouched 0 (L.state links.new).back }
     ensures all { OnOk result (length (L.state links.new).back ≡ length (link_names script)) }
     // What is asked of the links is what the lines of the script ask, all of it unless one could not be opened.
@@ -85,12 +85,12 @@ fn run_over<L: Linker>(
     requires unfinished { AllByRecursion (λ (e : Ends L.O L.I L.P). (L.O.state e.out).finished ≡ false) ends.items }
     requires unclosed { AllByRecursion (λ (e : Ends L.O L.I L.P). IfSome (L.I.state e.inn).closing (λ closing. closing ≡ false)) ends.items }
     requires always_ready { (L.state links.old).always_ready ≡ true → AllByRecursion (λ (e : Ends L.O L.I L.P). (L.O.state e.out).always_ready ≡ true) ends.items }
-    requires offers { TellOffers L.O.state L.I.state → AreAsked (specs_of Mode.Loop script) (map (λ e. L.O.state e.out) ends.items) (map (λ e. L.I.state e.inn) ends.items) }
+    requires offers { TellOffers L.goes_by_shape L.O.state L.I.state → AreAsked L.goes_by_shape (specs_of Mode.Loop script) (map (λ e. L.O.state e.out) ends.items) (map (λ e. L.I.state e.inn) ends.items) }
     requires all { length ends.items ≡ length (link_names script) }
     requires few { length ends.items ≤ 256 }
     requires opened { length (L.state links.old).asked ≡ length ends.items }
     requires back { (L.state links.old).back ≡ [] }
-    ensures text { IfOk result (λ text. (L.state links.old).always_ready ≡ true → TellClosed L.I.state → IsPrinted (TellOffers L.O.state L.I.state) print script (turns_of script schedule) text.items (L.state links.new).back) }
+    ensures text { IfOk result (λ text. (L.state links.old).always_ready ≡ true → TellClosed L.I.state → IsPrinted (TellOffers L.goes_by_shape L.O.state L.I.state) print script (turns_of script schedule) text.items (L.state links.new).back) }
     ensures back { length (L.state links.new).back ≡ length ends.items }
     ensures numbered { AreNumbered 0 (L.state links.new).back }
     ensures asked { (L.state links.new).asked ≡ (L.state links.old).asked }

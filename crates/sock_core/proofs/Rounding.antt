@@ -12,7 +12,7 @@ use Rattle.seat_programs.specs.ScheduledRuns.{from_to}
 use Rattle.seat_programs.specs.ScriptSetupToEnding.{AreStill}
 use Rattle.machine_model.specs.declared.tick.Tick.{Tick}
 use Rattle.machine_model.specs.declared.tick.Tick.TheVariants.{Moved, Waits, Idle}
-use Rattle.machine_model.specs.MachineLinks.{Taken, Given, Agrees, AgreesGave, StayOffered}
+use Rattle.machine_model.specs.MachineLinks.{Taken, Given, Agrees, AgreesGave, StayOffered, StayPaced}
 use Rattle.machine_model.specs.Machines.{MachineState, HasSizes, MOST_LEFT, READERS, core_with}
 use Rattle.machine_model.specs.MachineRuns.{SameTable, SameLinks, Follows, Made, TickIs, TickedWith, Ticked, round_by, MadeByTicks, RoundWith, Still, HasMoved, SettlesAfter, PlayedWith, PlayedOn, RanFirst}
 use Rattle.machine_model.specs.Driving.{LastsAtMost, LeavesFewer, LeavesAsMany, Leaves, IsPlain, FirstRests, TickedFirst}
@@ -261,6 +261,7 @@ pub record FirstSoFar (m fresh : MachineState) (count : ℕ) : Type 0 where
   pub ends : fresh.ends ≡ m.ends
   pub core : (took : Taken) (gave : Given) → Agrees m.links took → AgreesGave m.links gave → Agrees fresh.links took × AgreesGave fresh.links gave × (core_with fresh took gave ≡ run m.plan (core_with m took gave) (replicate count (quiet 0)))
   pub offers : (took : Taken) (gave : Given) → Agrees m.links took → AgreesGave m.links gave → StayOffered m.links.outs m.links.inns fresh.links
+  pub shapes : StayPaced m.links.outs fresh.links
   pub below : count < MOST_LEFT
   pub left : LastsAtMost fresh (MOST_LEFT - 1 - count)
 
@@ -273,13 +274,14 @@ first_none m plain sizes left = record {
   ends = refl;
   core = λ took gave agrees agrees_gave. (agrees, agrees_gave, refl);
   offers = λ took gave agrees agrees_gave k serve end h. h;
+  shapes = λ k pacing h. h;
   below = omega arith;
   left = left;
 }
 
 module _ (m fresh next : MachineState) (count : ℕ) (tick : Tick) (so_far : FirstSoFar m fresh count) (t : Ticked fresh next 0 tick) (first : TickedFirst fresh next) where
   core_on : (took : Taken) (gave : Given) → Agrees m.links took → AgreesGave m.links gave → Agrees next.links took × AgreesGave next.links gave × (core_with next took gave ≡ run m.plan (core_with m took gave) (replicate (count + 1) (quiet 0)))
-  core_on took gave agrees agrees_gave = let f = so_far.core took gave agrees agrees_gave in let g = first.2 took gave f.0 f.1 in (
+  core_on took gave agrees agrees_gave = let f = so_far.core took gave agrees agrees_gave in let g = first.3 took gave f.0 f.1 in (
     g.0,
     g.1,
     g.2 ∙ ap (λ (p : Plan). ticked p (core_with fresh took gave) (quiet 0)) so_far.table.plan ∙ ap (λ (c : Core). ticked m.plan c (quiet 0)) f.2
@@ -298,6 +300,7 @@ module _ (m fresh next : MachineState) (count : ℕ) (tick : Tick) (so_far : Fir
     ends = first.1 ∙ so_far.ends;
     core = core_on;
     offers = offers_more;
+    shapes = λ k pacing h. first.2 k pacing (so_far.shapes k pacing h);
     below = f.0;
     left = f.1;
   }
@@ -309,5 +312,6 @@ module _ (m fresh next : MachineState) (count : ℕ) (tick : Tick) (so_far : Fir
     steps = count + 1;
     core = core_on;
     offers = offers_more;
+    shapes = λ k pacing h. first.2 k pacing (so_far.shapes k pacing h);
     still = rest;
   }

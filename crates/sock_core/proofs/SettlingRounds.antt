@@ -1,13 +1,14 @@
 -- The whole of a run behind its schedule: rounds up to one in which nothing moved, the ending by seat 0, and such rounds again.
-use Rattle.std.proofs.Common.{◌≡◌, ℕ, List, replicate, refl, sym, ap, ◌∙◌, subst}
+use Rattle.std.proofs.Common.{◌≡◌, ℕ, List, ◌++◌, replicate, refl, sym, ap, ◌∙◌, subst}
 use Rattle.sock_words.specs.declared.plain.Plan.{Plan}
 use Rattle.seat_programs.specs.Cores.{Core}
-use Rattle.seat_programs.specs.Ticks.{quiet, run, AreAnswered, broken_in}
+use Rattle.seat_programs.specs.Ticks.{Answer, quiet, run, AreAnswered, broken_in}
 use Rattle.seat_programs.specs.ScriptSetupToEnding.{is_ending}
 use Rattle.machine_model.specs.run_theorems.specs.call_owing.specs.LivesOfLinks.{ClosesInTime}
 use Rattle.machine_model.specs.run_theorems.specs.OfferedAtTakes.{AreOffered}
+use Rattle.machine_model.specs.run_theorems.specs.ShapedPuts.{paced, AreShaped}
 use Rattle.machine_model.specs.run_theorems.specs.Heard.{heard_in, taken_in}
-use Rattle.machine_model.specs.MachineLinks.{LinksData, Taken, Given, Agrees, AgreesGave, AreAlwaysReady, TellClosing, IsOffering}
+use Rattle.machine_model.specs.MachineLinks.{LinksData, Taken, Given, Agrees, AgreesGave, AreAlwaysReady, TellClosing, IsOffering, IsShapedSo}
 use Rattle.machine_model.specs.Machines.{MachineState, core_with, ending_by}
 use Rattle.machine_model.specs.MachineRuns.{SameLinks, LinksShow, SettlesBy, PlayedWith, PlayedOn, RanFirst, SettledWith, Settled}
 use Rattle.machine_model.specs.Driving.{told_ending}
@@ -79,6 +80,12 @@ module _ (a b c d f : MachineState) (played : PlayedOn a b) (plan : c.plan ≡ b
           let began : IsOffering c.links k serve end = subst (λ (l : LinksData). IsOffering l k serve end) (sym links) x'.1 in
           let y' = y.follows.offers k serve end (first.offers t g agreed agreed_gave k serve end began) in
           (x'.0, subst (λ (p : Plan). AreOffered p k serve end ended y.moments) plans y'.0, y'.1);
+      shapes = λ k shape so_far h.
+          let said : List Answer = so_far ++ heard_in a.plan (core_with a took gave) x.moments k in
+          let x' = x.follows.shapes k shape so_far h in
+          let began : IsShapedSo c.links k shape said = subst (λ (l : LinksData). IsShapedSo l k shape said) (sym links) x'.1 in
+          let y' = y.follows.shapes k shape said (first.shapes k (paced shape said) began) in
+          (x'.0, subst (λ (p : Plan). AreShaped p k shape said ended y.moments) plans y'.0);
       so_far = y.follows.so_far;
       core = subst (λ (p : Plan). core_with f y.follows.later y.follows.later_gave ≡ run p ended y.moments) plans y.follows.core;
       shows = shows_join a told f (same_links_join a b told played.1 ran_same) final.1 (shows_on a b told (first.ends ∙ ends) x.follows.shows)

@@ -8,7 +8,7 @@ use Rattle.seat_programs.specs.declared.task.Task.{Task}
 use Rattle.seat_programs.specs.ScriptSetupToEnding.{set_up, all_tasks}
 use Rattle.seat_programs.specs.Tasks as wants
 use Rattle.sock_io.specs.LinkHalves.{OutState, InState, end_of}
-use Rattle.machine_model.specs.MachineLinks.{Agrees, AgreesGave, AreAlwaysReady, TellClosing, StayOffered}
+use Rattle.machine_model.specs.MachineLinks.{Agrees, AgreesGave, AreAlwaysReady, TellClosing, StayOffered, StayPaced}
 use Rattle.machine_model.specs.Machines.{MachineState, core_with}
 use Rattle.machine_model.specs.Driving.{FirstRests}
 
@@ -34,6 +34,7 @@ pub record TellsLinks {E : Type 0} (out_of : E → OutState) (in_of : E → InSt
   pub outs : AllByRecursion (λ (e : E). (out_of e).always_ready ≡ true) links → AreAlwaysReady m.links
   pub tell : AllByRecursion (λ (e : E). (in_of e).closing ≢ None) links → TellClosing m.links
   pub offers : StayOffered (map out_of links) (map in_of links) m.links
+  pub shapes : StayPaced (map out_of links) m.links
 
 -- the machine stands behind the setup of the script, and its links took and gave nothing
 pub record IsMade (script : List Item) (m : MachineState) : Type 0 where

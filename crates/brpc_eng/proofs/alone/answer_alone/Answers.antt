@@ -23,7 +23,7 @@ pub returns-in-Sim-clause-answers : goal.returns-in-Sim-clause-answers
 returns-in-Sim-clause-answers g c =
     let input = answer.source_over (g.S.Source.state c.args.source.now) (g.S.Source.state c.replay-in-Sim.new.source) in
     let out = answer.sink_over (g.K.Sink.state c.args.out.now) (g.K.Sink.state c.replay-in-Sim.new.out) in
-    let links = answer.linker_over (TellClosed g.L.I.In.state) (TellOffers g.L.O.Out.state g.L.I.In.state) g.L.Linker.tells_in (g.L.Linker.state c.args.links.now) (g.L.Linker.state c.replay-in-Sim.new.links) in record {
+    let links = answer.linker_over (TellClosed g.L.I.In.state) (TellOffers g.L.Linker.goes_by_shape g.L.O.Out.state g.L.I.In.state) g.L.Linker.tells_in (g.L.Linker.state c.args.links.now) (g.L.Linker.state c.replay-in-Sim.new.links) in record {
       ends = simulated _ _ input out links (number_of c.replay-in-Sim.result) c.in-Some.command c.in-Sim.seed c.from.result c.in-Some.ensures c.in-Sim.is c.from.ensures c.replay-in-Sim.ensures.replayed;
       accepted_none = (c.replay-in-Sim.ensures.connections.0 ∙ c.requires.unused.1, c.replay-in-Sim.ensures.connections.1 ∙ c.requires.unused.2);
     }

@@ -5,7 +5,7 @@ use Rattle.brpc_model.specs.Items.{Item}
 use Rattle.brpc_model.specs.ReturnedLink.{LinkEnd}
 use Rattle.brpc_model.specs.Operations.{link_names}
 use Rattle.brpc_model.specs.Script.{script_of}
-use Rattle.sock_io.specs.LinkHalves.{end_of}
+use Rattle.sock_io.specs.LinkHalves.{end_of, new_pacing}
 use Rattle.sock_io.specs.declared.link.Mode.TheVariants as mode
 use Rattle.script_links.specs.LinksGivenBack.{AreUntouched, specs_of}
 use Rattle.script_links.specs.OfferedLinks.{TellOffers}
@@ -65,12 +65,14 @@ returns-clause-text g c =
     let links = map (λ e. end_of (g.L.O.Out.state e.out) (g.L.I.In.state e.inn)) in
     let outline = c.in-Ok.outline in let is = c.in-Ok.ensures.1 in let start = c.in-Ok-of.machine in let over = c.in-Ok-of.ensures.over in
     let played = c.play-played.ensures in let done = c.finish-outcomes.ensures in
-    subst (λ (s : List Item). IfOk c.report_played-text.result (λ text. (g.L.Linker.state c.args.links.now).always_ready ≡ true → TellClosed g.L.I.In.state → IsPrinted (TellOffers g.L.O.Out.state g.L.I.In.state) c.args.print s (turns_of s c.args.schedule) text.items (g.L.Linker.state c.give_back-2.new.links).back)) is
+    subst (λ (s : List Item). IfOk c.report_played-text.result (λ text. (g.L.Linker.state c.args.links.now).always_ready ≡ true → TellClosed g.L.I.In.state → IsPrinted (TellOffers g.L.Linker.goes_by_shape g.L.O.Out.state g.L.I.In.state) c.args.print s (turns_of s c.args.schedule) text.items (g.L.Linker.state c.give_back-2.new.links).back)) is
     (text_answered c.args.print (λ text. text.items) c.report_played-text.result c.play-played.result c.requires.script.0 outline (turns_of outline c.args.schedule) start c.play-played.new.machine c.deref.result.now c.deref-2.result.now
     (links c.deref-3.result.now) (g.L.Linker.state c.give_back-2.new.links).back (subst (λ (s : List Item). script_of c.requires.script.0 ≡ Ok s) (sym is) c.requires.script.1) (subst (λ (s : List Item). IsMade s start) (c.in-Ok.ensures.0 ∙ sym is) c.in-Ok-of.ensures.made)
     (subst (AreUntouched 0) (sym over.ends) c.requires.untouched) (ap length over.ends ∙ length-map c.args.ends.items (λ e. end_of (g.L.O.Out.state e.out) (g.L.I.In.state e.inn)) ∙ c.requires.all ∙ ap (λ (s : List Item). length (link_names s)) (sym is))
     played.ends done.took done.gave_count done.gave done.letters (c.deref.ensures.value ∙ done.outcomes) (c.deref-2.ensures.value ∙ done.places) (ap links c.deref-3.ensures.value ∙ done.ends) (c.give_back-2.ensures.back ∙ sym (ap links c.deref-3.ensures.value))
     c.report_played-text.ensures.played (λ ready. over.outs (c.requires.always_ready ready)) (λ tell. over.tell (all_so (λ e. (g.L.I.In.state e.inn).closing ≢ None) (λ e. (tell e.inn).0) c.args.ends.items))
     (λ tell. subst (AllByRecursion (λ (e : LinkEnd). e.closed ≢ None)) (sym over.ends) (all_mapped (λ e. end_of (g.L.O.Out.state e.out) (g.L.I.In.state e.inn)) (λ (e : LinkEnd). e.closed ≢ None) (λ e. (tell e.inn).1) c.args.ends.items))
-    (TellOffers g.L.O.Out.state g.L.I.In.state) (λ tell k spec at. over.offers k spec.shape.serve spec.shape.end (c.requires.offers tell k spec (sym (ap (λ s. slice_get (specs_of mode.Loop s) k) is) ∙ at)))
+    (TellOffers g.L.Linker.goes_by_shape g.L.O.Out.state g.L.I.In.state) g.L.Linker.goes_by_shape (λ tell. tell.2)
+    (λ tell k spec at. let asked = c.requires.offers tell k spec (sym (ap (λ s. slice_get (specs_of mode.Loop s) k) is) ∙ at) in
+    (over.offers k spec.shape.serve spec.shape.end asked.0, λ by_shape. over.shapes k (new_pacing spec) (asked.1 by_shape)))
     played.run played.plan c.report_played-text.ensures.text)

@@ -28,7 +28,7 @@ run_over-requires-clause-always_ready g c κs within always_ready = c.in-Ok.ensu
 
 pub run_over-requires-clause-offers : goal.run_over-requires-clause-offers
 run_over-requires-clause-offers g c κs within tell =
-    subst (λ (specs : List LinkSpec). AreAsked specs (map (λ e. g.L.O.Out.state e.out) c.open_links-opened.new.ends.items) (map (λ e. g.L.I.In.state e.inn) c.open_links-opened.new.ends.items))
+    subst (λ (specs : List LinkSpec). AreAsked g.L.Linker.goes_by_shape specs (map (λ e. g.L.O.Out.state e.out) c.open_links-opened.new.ends.items) (map (λ e. g.L.I.In.state e.inn) c.open_links-opened.new.ends.items))
     (c.in-Ok.ensures.asked ∙ ap (specs_of mode.Loop) c.lines.ensures) (c.in-Ok.ensures.offers tell)
 
 pub give_back-requires-clause-numbered : goal.give_back-requires-clause-numbered

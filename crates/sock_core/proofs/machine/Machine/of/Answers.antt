@@ -23,4 +23,5 @@ returns-clause-over g c = let start = c.in_ok-machine.ensures.over in let ran = 
   outs = λ all. ran.same.1.always_ready (start.outs all);
   tell = λ all. ran.same.1.tell (start.tell all);
   offers = λ k serve end h. ran.offers (λ k. []) (λ k. []) c.in_ok-machine.ensures.agrees.0 c.in_ok-machine.ensures.agrees.1 k serve end (start.offers k serve end h);
+  shapes = λ k pacing h. ran.shapes k pacing (start.shapes k pacing h);
 }

@@ -68,4 +68,5 @@ returns-clause-over g c =
       outs = all_prompt (λ e. g.O.Out.state e.out) c.args.ends.items l refl;
       tell = all_tell (λ e. g.I.In.state e.inn) c.args.ends.items l refl;
       offers = λ k serve end h. h;
+      shapes = λ k pacing h. h;
     }
