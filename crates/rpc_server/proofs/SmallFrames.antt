@@ -1,5 +1,5 @@
--- A frame with which some bytes begin is no larger than a frame may be, and so is what a service gives for it.
-use Rattle.std.proofs.Common.{◌≡◌, ℕ, ◌+◌, ◌-◌, ◌≤◌, Bool, true, false, List, length, take, drop, ℤ, pos, negsuc, Option, Some, Result, Ok, Err, refl, subst, arith, length-take, length-drop}
+-- A frame with which some bytes begin is no larger than a frame may be.
+use Rattle.std.proofs.Common.{◌≡◌, ℕ, ◌+◌, ◌-◌, ◌≤◌, Bool, true, false, List, length, take, drop, ℤ, pos, negsuc, Option, Some, Result, Ok, Err, refl, ap, subst, arith, length-take, length-drop}
 use Rattle.std.specs.Prelude.{nat_lt, if◌then◌else◌}
 use Rattle.std.proofs.lemmas.Bool.{ltb-false}
 use Rattle.brpc_model.specs.Meta.{Meta, MetaFault, read_meta}
@@ -8,6 +8,7 @@ use Rattle.prpc_frame.specs.Header.{magic_wrong, body_size, meta_size, inside_of
 use Rattle.prpc_frame.specs.FrameMeaning.{frame_of}
 use Rattle.prpc_frame.specs.declared.frame.Frame as code_
 use Rattle.prpc_frame.specs.CutterAnswers.{Answers}
+use Rattle.rpc_server.specs.ReplySize.{IsBegun}
 
 -- how many bytes a frame has behind its meta
 abbrev pub load : Frame → ℕ
@@ -18,20 +19,20 @@ past : (t : Bool) (x y : Judged) (f : Frame) (n : ℕ) → (x ≡ Begins f n →
 past true x y f n other e = absurd (other e)
 past false x y f n other e = (refl, e)
 
-attached : (m : Meta) (z : ℤ) (behind : List ℕ) (body : ℕ) (f : Frame) (n : ℕ) → with_attachment m z behind body ≡ Begins f n → load f ≤ length behind
+attached : (m : Meta) (z : ℤ) (behind : List ℕ) (body : ℕ) (f : Frame) (n : ℕ) → with_attachment m z behind body ≡ Begins f n → (m ≡ f.meta) × (load f ≤ length behind)
 attached m (negsuc k) behind body f n e = absurd (cc)
 attached m (pos k) behind body f n e =
     let g : Frame = record { meta = m; payload = take (length behind - k) behind; attachment = drop (length behind - k) behind } in
     let s : g ≡ f = let h = (past (nat_lt (length behind) k) (Faulty (AttachOver (pos k) (length behind))) (Begins g body) f n (λ x. cc) e).1 in cc in
-    subst (λ (x : Frame). load x ≤ length behind) s (omega (arith, length-take (length behind - k) behind, length-drop (length behind - k) behind))
+    subst (λ (x : Frame). (m ≡ x.meta) × (load x ≤ length behind)) s (refl, omega (arith, length-take (length behind - k) behind, length-drop (length behind - k) behind))
 
-bodied : (r : Result Meta MetaFault) (behind : List ℕ) (body : ℕ) (f : Frame) (n : ℕ) → body_judged r behind body ≡ Begins f n → load f ≤ length behind
+bodied : (r : Result Meta MetaFault) (behind : List ℕ) (body : ℕ) (f : Frame) (n : ℕ) → body_judged r behind body ≡ Begins f n → (r ≡ Ok f.meta) × (load f ≤ length behind)
 bodied (Err fault) behind body f n e = absurd (cc)
-bodied (Ok m) behind body f n e = attached m m.attachment_size behind body f n e
+bodied (Ok m) behind body f n e = let x = attached m m.attachment_size behind body f n e in (ap (λ (m : Meta). Ok m) x.0, x.1)
 
--- a frame with which some bytes begin
-pub begun_small : (bytes : List ℕ) (f : Frame) (n : ℕ) → judged bytes ≡ Begins f n → load f ≤ body_limit
-begun_small bytes f n e =
+-- a frame with which some bytes begin has a meta that some of them spell
+pub begun_from : (bytes : List ℕ) (f : Frame) (n : ℕ) → judged bytes ≡ Begins f n → (spelled : List ℕ) × (read_meta spelled ≡ Ok f.meta) × (length spelled + load f ≤ body_limit)
+begun_from bytes f n e =
     let body = body_size bytes in
     let meta = meta_size bytes in
     let whole : Judged = body_judged (read_meta (take meta (inside_of body bytes))) (drop meta (inside_of body bytes)) body in
@@ -45,11 +46,18 @@ begun_small bytes f n e =
     let d = past (nat_lt body meta) (Faulty (MetaOver meta body)) five f n (λ x. cc) c.1 in
     let w = past (nat_lt (length bytes) (12 + body)) NoneYet whole f n (λ x. cc) d.1 in
     let small : body ≤ body_limit = ltb-false body_limit body c.0 in
-    let fits : load f ≤ length (drop meta (inside_of body bytes)) = bodied (read_meta (take meta (inside_of body bytes))) (drop meta (inside_of body bytes)) body f n w.1 in
-    omega (arith, small, fits, length-drop meta (inside_of body bytes), length-take body (drop 12 bytes))
+    let lies = bodied (read_meta (take meta (inside_of body bytes))) (drop meta (inside_of body bytes)) body f n w.1 in (
+      take meta (inside_of body bytes),
+      lies.0,
+      omega (arith, small, lies.1, length-take meta (inside_of body bytes), length-drop meta (inside_of body bytes), length-take body (drop 12 bytes)),
+    )
 
--- the frame that a cutter gives
-pub cut_small : (bytes new : List ℕ) (there : Option code_.Frame) (f : code_.Frame) → there ≡ Some f → Answers (judged bytes) bytes (Ok there) new → load (frame_of f) ≤ body_limit
-cut_small bytes new there f is h =
+-- some bytes begin with the frame that a cutter gives
+pub cut_begun : (bytes new : List ℕ) (there : Option code_.Frame) (f : code_.Frame) → there ≡ Some f → Answers (judged bytes) bytes (Ok there) new → IsBegun (frame_of f)
+cut_begun bytes new there f is h =
     let P : Option code_.Frame → Type 0 = λ t. Answers (judged bytes) bytes (Ok t) new in
-    let cut = subst P is h in begun_small bytes (frame_of f) cut.body cut.means
+    let cut = subst P is h in (bytes, cut.body, cut.means)
+
+-- and so it is small
+pub begun_small : (f : code_.Frame) → IsBegun (frame_of f) → length f.payload.items + length f.attachment.items ≤ body_limit
+begun_small f b = let x = begun_from b.0 (frame_of f) b.1 b.2 in omega (arith, x.2)

@@ -1,4 +1,5 @@
 pub mod ServiceAnswers
+pub mod ReplySize
 pub mod HeldByConnection
 pub mod InsideConnection
 pub mod Feeding

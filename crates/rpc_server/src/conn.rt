@@ -1,7 +1,7 @@
 ghost use Rattle.std.specs.Prelude.{◌≡◌, ◌+◌, ◌≤◌, ◌++◌, length, OnOk, OnErr};
-ghost use Rattle.brpc_model.specs.Frame.{body_limit};
 ghost use Rattle.prpc_frame.specs.FrameMeaning.{frame_of};
 ghost use Rattle.rpc_server.specs.Feeding.{Feeds, AnswersWhole, replies_to, reply_bytes};
+ghost use Rattle.rpc_server.specs.ReplySize.{IsBegun};
 ghost use Rattle.rpc_server.specs.declared.conn.ConnFault.TheVariants.{NoMemory as no_memory};
 
 use crate::reply::reply_to;
@@ -107,7 +107,7 @@ impl Conn {
         out: &mut IoBuf,
         frame: Frame,
     ) -> Result<(), NoMemory>
-        requires { length frame.payload.items + length frame.attachment.items ≤ body_limit }
+        requires { IsBegun (frame_of frame) }
         ensures bytes { self.new.bytes ≡ self.old.bytes }
         ensures told { self.new.told ≡ self.old.told }
         ensures appended { OnOk result (out.new.items ≡ out.old.items ++ reply_bytes (frame_of frame)) }

@@ -4,7 +4,8 @@ ghost use Rattle.brpc_model.specs.Spelling.{meta_bytes};
 ghost use Rattle.rpc_meta.specs.MetaMeaning.{meaning};
 ghost use Rattle.brpc_model.specs.Reply.{reply, answered_by, response_with};
 ghost use Rattle.prpc_frame.specs.FrameMeaning.{frame_of};
-ghost use Rattle.rpc_server.specs.ServiceAnswers.{code_of, text_of, meant, IsSmall};
+ghost use Rattle.rpc_server.specs.ServiceAnswers.{code_of, text_of, meant};
+ghost use Rattle.rpc_server.specs.ReplySize.{frame_size, IsBegun, IsFit};
 
 use crate::service::{Answer, Refusal, serve};
 use io_buf::{BlockPool, IoBuf, NoMemory};
@@ -12,17 +13,15 @@ use prpc_frame::{Frame, encode};
 use rpc_meta::{MetaBytes, ResponseMeta, RpcMeta};
 use std::alloc::Global;
 
-/// The most bytes that a frame's body has (bRPC's default).
-const BODY_LIMIT: usize = 67_108_864;
-
-/// The reply to a frame, in its bytes: none where the frame has no request. The frame is no larger than one may be. Want of
-/// memory would also come where the reply were larger, which none is: a request that names service and method is longer.
+/// The reply to a frame, in its bytes: none where the frame has no request. Some bytes begin with the frame, so that the
+/// reply is no larger than one may be: the meta of a request that names a service and its method is longer than that of
+/// the response.
 pub fn reply_to(
     alloc: Global,
     pool: &mut BlockPool,
     frame: Frame,
 ) -> Result<Option<IoBuf>, NoMemory>
-    requires { length frame.payload.items + length frame.attachment.items ≤ body_limit }
+    requires { IsBegun (frame_of frame) }
     ensures { IfOk result (λ r. option_map (λ b. b.items) r ≡ option_map frame_bytes (reply (frame_of frame))) }
 {
     let Frame {
@@ -71,7 +70,7 @@ impl Refusal {
 
 // The frame of an answer.
 fn answered(alloc: Global, pool: &mut BlockPool, id: u64, answer: Answer) -> Result<IoBuf, NoMemory>
-    requires { IsSmall answer }
+    requires { IsFit id answer }
     ensures { IfOk result (λ b. b.items ≡ frame_bytes (answered_by id (meant answer))) }
 {
     match answer {
@@ -105,16 +104,13 @@ fn respond(
     attachment: &IoBuf,
 ) -> Result<IoBuf, NoMemory>
     requires short { length text.now ≤ 11 }
-    requires small { length payload.now.items + length attachment.now.items ≤ body_limit }
+    requires small { frame_size (response_with id «code» text.now payload.now.items attachment.now.items) ≤ body_limit }
     ensures { IfOk result (λ b. b.items ≡ frame_bytes (response_with id «code» text.now payload.now.items attachment.now.items)) }
 {
     let Ok(text) = MetaBytes::copy(alloc, text) else {
         return Err(NoMemory);
     };
     let meta = response_meta(id, code, text, attachment);
-    if !is_small(spelled_len(&meta), payload.len(), attachment.len()) {
-        return Err(NoMemory);
-    }
     encode(alloc, pool, &meta, payload, attachment)
 }
 
@@ -137,22 +133,4 @@ fn response_meta(id: u64, code: u16, text: MetaBytes, attachment: &IoBuf) -> Rpc
         correlation_id: id,
         attachment_size,
     }
-}
-
-// How many bytes the meta has when it is written, which are few.
-fn spelled_len(meta: &RpcMeta) -> usize
-    requires few { length (meta_bytes (meaning meta.now)) ≤ body_limit }
-    ensures { result ≡ length (meta_bytes (meaning meta.now)) }
-{
-    let Some(size) = meta.spelled_size() else {
-        unreachable!();
-    };
-    size
-}
-
-// Whether the three are a body that a frame may have.
-fn is_small(meta: usize, payload: usize, attachment: usize) -> bool
-    ensures { result ≡ true → meta + payload + attachment ≤ body_limit }
-{
-    meta <= BODY_LIMIT && payload <= BODY_LIMIT - meta && attachment <= BODY_LIMIT - meta - payload
 }

@@ -10,7 +10,7 @@ use Rattle.rpc_server.specs.Feeding.{replies_to, AnswersWhole}
 use Rattle.rpc_server.specs.HeldByConnection.{Held}
 use Rattle.rpc_server.specs.declared.conn.ConnFault.TheVariants as fault_
 use Rattle.rpc_server.proofs.AnsweringFrames.{answered_none, answered_next, answered_same, stopped_at, untold}
-use Rattle.rpc_server.proofs.SmallFrames.{cut_small}
+use Rattle.rpc_server.proofs.SmallFrames.{cut_begun}
 use Rattle.rpc_server.proofs.conn.Conn.answer_whole.Goals as goal
 
 pub loop-frame-init : goal.loop-frame-init
@@ -24,7 +24,7 @@ loop-frame-preserved c = (
 )
 
 pub answer-requires : goal.answer-requires
-answer-requires c = cut_small c.self.inside.cutter.bytes c.next.new.self.bytes c.in-Ok-Some.field-0 c.in-Ok-Some.frame c.in-Ok-Some.field-0-is c.in-Ok-Some.ensures.exact
+answer-requires c = cut_begun c.self.inside.cutter.bytes c.next.new.self.bytes c.in-Ok-Some.field-0 c.in-Ok-Some.frame c.in-Ok-Some.field-0-is c.in-Ok-Some.ensures.exact
 
 pub returns-in_err-answer-in-Ok-Some : goal.returns-in_err-answer-in-Ok-Some
 returns-in_err-answer-in-Ok-Some c =
