@@ -79,7 +79,7 @@ module _ {R : View Asked → View Asked → Type 0} (x : Spans R) where
     posted_if true slots w b b' (inr h) = x.in_turn b.view h.seen b'.view (x.posts slots b.view h.seen (call_at w) code (attempt_at w) h.answer h.posted) (posted_to h.answer (record b { view = h.seen }) b' h.then_)
 
     posted_at : (p : Plan) (link operation : ℕ) (found : Option AtWord) (b b' : Books) → PostedAt p link code operation found b b' → Along b b'
-    posted_at p link operation None b b' h = same b b' h
+    posted_at p link operation None b b' h = same b b' h.same
     posted_at p link operation (Some w) b b' h = let v = with_kept (at_index p operation) false w.0 b.view in
         x.in_turn b.view v b'.view (x.noted b.view v refl) (posted_if (at_word_link w.0 == link) p.slots w.0 (record b { view = v }) b' h)
 

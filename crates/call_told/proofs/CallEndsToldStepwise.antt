@@ -180,7 +180,7 @@ module _ (p : Plan) (links : ℕ) (gave : ℕ → List ℕ) (Later : View Asked 
             step_then b u b' (step_seen b h.seen later) (posted_to b.view word h.answer u b' (stays b.view h.seen later word (is refl)) h.posted h.then_)
 
         posted_at : (operation : ℕ) (w : Option AtWord) (b b' : Books) → PostedAt p link code operation w b b' → Step b b'
-        posted_at operation None b b' h = step_same b b' h
+        posted_at operation None b b' h = step_same b b' h.same
         posted_at operation (Some w) b b' h =
             let v = with_kept (at_index p operation) false w.0 b.view in let u : Books = record b { view = v } in
             step_then b u b' (step_seen b v (laws.kept b.view v (at_index p operation) false w.0 refl)) (posted_if (at_word_link w.0 == link) w.0 u b' (found operation w.0 b.view) h)

@@ -211,7 +211,7 @@ module _ (slots : ℕ) (Given : Frame → Type 0) (asked : (f : Frame) → Given
         from_other b u b' refl (posted_to b.view (call_at w) (attempt_at w) h.answer u b' h.posted (all_met b u (goes_view slots b h.seen (post_grows slots code b.view h.seen (call_at w) (attempt_at w) h.answer h.posted)) all) calm h.then_)
 
     at_tells : (p : Plan) → p.slots ≡ slots → (link operation : ℕ) (found : Option AtWord) (b b' : Books) → AllMet b → (b.starved ≡ true → ⊥) → PostedAt p link code operation found b b' → TellsEnds b b'
-    at_tells p is link operation None b b' all calm h = tells_same b b' h
+    at_tells p is link operation None b b' all calm h = tells_same b b' h.same
     at_tells p is link operation (Some w) b b' all calm h =
         let v = with_kept (at_index p operation) false w.0 b.view in let u : Books = record b { view = v } in
         from_other b u b' refl (posted_tells (at_word_link w.0 == link) w.0 u b' (all_met b u (goes_view slots b v (same_notes slots b.view v refl)) all) calm (subst (λ (n : ℕ). PostedIf (at_word_link w.0 == link) n code w.0 u b') is h))

@@ -268,7 +268,7 @@ module _ (slots : ℕ) where
         goes_then b u b' (goes_view b h.seen (post_grows b.view h.seen (call_at w) (attempt_at w) h.answer h.posted)) (posted_to b.view (call_at w) (attempt_at w) h.answer u b' h.posted h.then_)
 
     pub posted_goes : (p : Plan) → p.slots ≡ slots → (link operation : ℕ) (found : Option AtWord) (b b' : Books) → PostedAt p link code operation found b b' → Goes slots b b'
-    posted_goes p is link operation None b b' h = goes_same b b' h
+    posted_goes p is link operation None b b' h = goes_same b b' h.same
     posted_goes p is link operation (Some w) b b' h =
         let v = with_kept (at_index p operation) false w.0 b.view in let u : Books = record b { view = v } in
         goes_then b u b' (goes_view b v (same_notes b.view v refl)) (posted_if (at_word_link w.0 == link) w.0 u b' (subst (λ (n : ℕ). PostedIf (at_word_link w.0 == link) n code w.0 u b') is h))

@@ -193,7 +193,7 @@ module _ (code : ℕ) where
       tally_then b u b' (tally_seen b h.seen (post_ends slots b.view h.seen (call_at w) code (attempt_at w) h.answer h.posted) (λ x. post_grows x slots b.view h.seen (call_at w) code (attempt_at w) h.answer h.posted)) (posted_to slots b.view (call_at w) (attempt_at w) h.answer u b' h.posted h.then_)
 
   posted_at : (p : Plan) (link operation : ℕ) (found : Option AtWord) (b b' : Books) → PostedAt p link code operation found b b' → Tally b b'
-  posted_at p link operation None b b' h = tally_same b b' h
+  posted_at p link operation None b b' h = tally_same b b' h.same
   posted_at p link operation (Some w) b b' h =
       let v = with_kept (at_index p operation) false w.0 b.view in
       let u : Books = record b { view = v } in

@@ -115,7 +115,7 @@ module _ (code : ℕ) (loss : IsReadCode code) where
   posted_if true slots w b b' (inr h) = posted_to h.answer (record b { view = h.seen }) b' h.then_
 
   posted_at : (p : Plan) (link operation : ℕ) (found : Option AtWord) (b b' : Books) → PostedAt p link code operation found b b' → TellsCodes b b'
-  posted_at p link operation None b b' h = codes_same b b' h
+  posted_at p link operation None b b' h = codes_same b b' h.same
   posted_at p link operation (Some w) b b' h = posted_if (at_word_link w.0 == link) p.slots w.0 (record b { view = with_kept (at_index p operation) false w.0 b.view }) b' h
 
   posted_all : (p : Plan) (link : ℕ) (os : List ℕ) (b b' : Books) → PostedAll p link code os b b' → TellsCodes b b'

@@ -161,7 +161,7 @@ module _ (q : Plan) (link code : ℕ) where
   }
 
   posted_at : (operation : ℕ) (found : Option AtWord) (b b' : Books) → PostedAt q link code operation found b b' → Posts b.view b'.view
-  posted_at operation None b b' h = posts_none b.view b'.view (books_stay b b' h)
+  posted_at operation None b b' h = posts_none b.view b'.view (books_stay b b' h.same)
   posted_at operation (Some w) b b' h =
       let v = with_kept (at_index q operation) false w.0 b.view in
       posts_then b.view v b'.view (posts_none b.view v (kept_stays b.view v (at_index q operation) false w.0 refl)) (posted_if (at_word_link w.0 == link) w.0 (record b { view = v }) b' (post_found operation w.0 b.view) h)

@@ -69,7 +69,7 @@ module _ (slots : ℕ) (Given : Frame → Type 0) (asked : (f : Frame) → Given
     if_waits true word b b' all calm (inr h) = waits_then b.view h.seen b'.view (post_waits word b h.seen h.answer all calm h.posted h.none_kept) (waits_none h.seen b'.view (posted_stays code h.answer (record b { view = h.seen }) b' h.then_))
 
     at_waits : (p : Plan) → p.slots ≡ slots → (link operation : ℕ) (found : Option AtWord) (b b' : Books) → AllMet slots Given asked b → (b.starved ≡ true → ⊥) → PostedAt p link code operation found b b' → Waits b.view b'.view
-    at_waits p is link operation None b b' all calm h = waits_none b.view b'.view (books_stay b b' h)
+    at_waits p is link operation None b b' all calm h = waits_none b.view b'.view (books_stay b b' h.same)
     at_waits p is link operation (Some w) b b' all calm h =
         let v = with_kept (at_index p operation) false w.0 b.view in let u : Books = record b { view = v } in
         waits_then b.view v b'.view (waits_none b.view v (kept_stays b.view v (at_index p operation) false w.0 refl))

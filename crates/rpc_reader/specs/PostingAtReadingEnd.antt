@@ -14,12 +14,14 @@ use Rattle.corr_id.specs.declared.posts.Posted.{Posted}
 use Rattle.corr_id.specs.declared.posts.Posted.TheVariants as posted
 use Rattle.corr_id.specs.SeatBehindIdCalls.{Quiet, Found, HasId}
 use Rattle.corr_id.specs.PostAnswers.{PostOk}
+use Rattle.corr_id.specs.Ruled.{is_place}
 use Rattle.sock_message.specs.Asked.{Asked}
 use Rattle.prpc_frame.specs.FrameMeaning.{frame_of}
 use Rattle.prpc_frame.specs.declared.frame.Frame.{Frame}
 use Rattle.brpc_model.specs.ResponseOutcome.{ending_of}
 use Rattle.rpc_reader.specs.ReaderBooks.{Books, EndedAs, id_of}
 use Rattle.rpc_reader.specs.Met.{is_for, FrameMet}
+use Rattle.sock_words.specs.Totals.{total}
 
 -- the first kept response of an attempt of the id ends its call; where none was kept, the code does
 abbrev pub LostBy : ℕ → Parts → Asked → ℕ → Option ℕ → Books → Books → Type 0
@@ -84,9 +86,14 @@ abbrev pub PostedIf : Bool → ℕ → ℕ → ℕ → Books → Books → Type 
 PostedIf true slots code w b b' = MetOrPosted slots code w b b'
 PostedIf false slots code w b b' = b' ≡ b
 
+-- no attempt of the operation's call had a place: the word was 0, and the seat knew of none there
+pub record NoPlace (p : Plan) (operation : ℕ) (b b' : Books) : Type 0 where
+  pub unknown : total (is_place (at_index p operation)) b.view.kept ≡ 0
+  pub same : b' ≡ b
+
 -- what the at word of the call of this operation led to
 abbrev pub PostedAt : Plan → ℕ → ℕ → ℕ → Option AtWord → Books → Books → Type 0
-PostedAt p link code operation None b b' = b' ≡ b
+PostedAt p link code operation None b b' = NoPlace p operation b b'
 PostedAt p link code operation (Some w) b b' = PostedIf (at_word_link w.0 == link) p.slots code w.0 (record b { view = with_kept (at_index p operation) false w.0 b.view }) b'
 
 abbrev pub PostedOne : Plan → ℕ → ℕ → ℕ → Books → Books → Type 0
