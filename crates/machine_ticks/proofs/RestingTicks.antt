@@ -16,10 +16,10 @@ use Rattle.seat_programs.specs.ScheduledRuns.{kind_in, IsAtRest}
 use Rattle.reader_seats.specs.ReaderState.{ReaderData, reader_program}
 use Rattle.client_seats.specs.ClientSeatState.{SeatData, seat_program}
 use Rattle.machine_model.specs.declared.tick.Tick.TheVariants as ticks
-use Rattle.machine_model.specs.MachineLinks.{LinksData, Taken, Given}
+use Rattle.machine_model.specs.MachineLinks.{LinksData, Taken, Given, IsShapedSo}
 use Rattle.machine_model.specs.Machines.{MachineState, READERS, core_with, machine_sizes, between, resting, clients_with, readers_with, seats_with}
 use Rattle.machine_model.specs.MachineRuns.{Follows, Ticked, TickedWith, Ran}
-use Rattle.machine_ticks.proofs.JoiningRuns.{rests, rest_answered, rest_heard, rest_taken, rests_on, rests_heard, rests_taken, rests_answered, seats_quiet, quiet_prompt, quiet_closes, quiet_offers, quiet_broken, shows_none, shows_idle}
+use Rattle.machine_ticks.proofs.JoiningRuns.{rests, rest_answered, rest_heard, rest_taken, rests_on, rests_heard, rests_taken, rests_shaped, rests_answered, seats_quiet, quiet_prompt, quiet_closes, quiet_offers, quiet_broken, shows_none, shows_idle}
 use Rattle.machine_model.proofs.Same.{same_table_none, same_links_none}
 
 -- the seat has no step left, whatever its links took and gave
@@ -74,6 +74,7 @@ follows_idle a b i took gave t = record {
   always_ready = λ h. tt;
   closes = λ h. tt;
   offers = λ k serve end h. (tt, (t.follows.offers k serve end h).1);
+  shapes = λ k shape so_far h. (tt, subst (IsShapedSo b.links k shape) (ap (λ (l : List Answer). so_far ++ l) (append-nil (heard_at (core_with a took gave) t.moment k) ∙ rest_heard (core_with a took gave) t.moment t.is k)) (t.follows.shapes k shape so_far h).1);
   so_far = t.follows.so_far;
   core = idle_core a b i took gave t;
   shows = shows_idle a b t.follows.shows refl (λ k. append-nil (heard_at (core_with a took gave) t.moment k) ∙ rest_heard (core_with a took gave) t.moment t.is k) (λ k. append-nil (taken_at (core_with a took gave) t.moment k) ∙ rest_taken (core_with a took gave) t.moment t.is k);
@@ -97,6 +98,10 @@ rest_ticks m i rest = (
       always_ready = λ h. (λ e. absurd (cc), tt);
       closes = λ h. quiet_closes m.plan (core_with m took gave) 1 i;
       offers = λ k serve end h. (quiet_offers m.plan k serve end (core_with m took gave) 1 i, h);
+      shapes = λ k shape so_far h. (
+        rests_shaped m.plan (core_with m took gave) i (rest took gave) k shape 1 so_far,
+        subst (IsShapedSo m.links k shape) (sym (ap (λ (l : List Answer). so_far ++ l) (append-nil (heard_at (core_with m took gave) (quiet i) k) ∙ rest_heard (core_with m took gave) (quiet i) (rest took gave) k) ∙ append-nil so_far)) h,
+      );
       so_far = record { took = took; gave = gave; agrees = agrees; agrees_gave = agrees_gave };
       core = sym (rests m.plan (core_with m took gave) (quiet i) (rest took gave));
       shows = shows_none m m refl refl (λ k. append-nil (heard_at (core_with m took gave) (quiet i) k) ∙ rest_heard (core_with m took gave) (quiet i) (rest took gave) k)
@@ -144,6 +149,10 @@ idle_ran a b i t n = (
       always_ready = λ h. quiet_prompt n i;
       closes = λ h. quiet_closes a.plan c n i;
       offers = λ k serve end h. (quiet_offers a.plan k serve end c n i, (w.follows.offers k serve end h).1);
+      shapes = λ k shape so_far h. (
+        rests_shaped a.plan c i rest k shape n so_far,
+        subst (IsShapedSo b.links k shape) (ap (λ (l : List Answer). so_far ++ l) (append-nil (heard_at c w.moment k) ∙ rest_heard c w.moment w.is k ∙ sym (rests_heard a.plan c i rest n k))) (w.follows.shapes k shape so_far h).1,
+      );
       so_far = w.follows.so_far;
       core = idle_core a b i took gave w ∙ sym (rests_on a.plan c i rest n);
       shows = shows_idle a b w.follows.shows (quiet_broken a.plan c n i) (λ k. append-nil (heard_at c w.moment k) ∙ rest_heard c w.moment w.is k ∙ sym (rests_heard a.plan c i rest n k))
@@ -195,6 +204,7 @@ none_follows a b took gave i n ms rest are f = let u = unmoved a.plan i n (core_
   always_ready = λ h. tt;
   closes = λ h. tt;
   offers = λ k serve end h. (tt, (f.offers k serve end h).1);
+  shapes = λ k shape so_far h. (tt, subst (IsShapedSo b.links k shape) (ap (λ (l : List Answer). so_far ++ l) (u.1 k)) (f.shapes k shape so_far h).1);
   so_far = f.so_far;
   core = f.core ∙ u.0;
   shows = shows_idle a b f.shows refl u.1 u.2;
