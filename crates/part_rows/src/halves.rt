@@ -1,5 +1,5 @@
 // What halves of links and their other ends answer. Nothing more is said of it, so that a row that asks often is proved soon.
-ghost use Rattle.std.specs.Prelude.{◌<◌, length};
+ghost use Rattle.std.specs.Prelude.{◌≡◌, ◌<◌, true, length};
 
 use sock_io::{In, Out, Peer, Put, Served, Take};
 
@@ -23,6 +23,8 @@ pub fn served_by<P: Peer>(peer: &mut P) -> Option<Served> {
 }
 
 /// Ends the writing half.
-pub fn end_of<O: Out>(out: &mut O) {
+pub fn end_of<O: Out>(out: &mut O)
+    ensures { (O.state out.new).finished ≡ true }
+{
     out.finish();
 }

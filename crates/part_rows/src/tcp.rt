@@ -1,4 +1,4 @@
-ghost use Rattle.std.specs.Prelude.{◌≡◌, ◌<◌, ◌≤◌, [], IfOk, length};
+ghost use Rattle.std.specs.Prelude.{◌≡◌, ◌<◌, ◌≤◌, [], true, IfOk, length};
 
 use crate::halves::{end_of, put_on, take_of};
 use net_link::{TcpLinker, read_some, write_some};
@@ -44,8 +44,10 @@ type Heard = (bool, Take, Take, Put);
 // What is said: whether the reply came, what the put of the message answered, and what the takes did.
 type Said = (bool, Put, Take, Take);
 
-// Takes a message and its end, and then replies.
-fn hear_over<O: Out, I: In>(out: &mut O, inn: &mut I) -> Heard {
+// Takes a message and its end, then replies and ends the half.
+fn hear_over<O: Out, I: In>(out: &mut O, inn: &mut I) -> Heard
+    ensures { (O.state out.new).finished ≡ true }
+{
     let mut room = [0; 64];
     let message = take_of(inn, &mut room);
     let end = take_of(inn, &mut [0; 8]);
@@ -164,10 +166,11 @@ fn refuses_behind<L: Linker, N: Net<Stream = TcpStream, Listener = TcpListener> 
 ) -> Option<bool>
     requires { ((L.state links.old).accepted ≡ 0) × ((L.state links.old).done ≡ []) }
 {
-    let Ok((out, inn)) = links.accept(port) else {
+    let Ok((mut out, inn)) = links.accept(port) else {
         return None;
     };
     let refuses = is_refused(&mut TcpLinker::new(net, alloc), Mode::Tcp(port));
+    end_of(&mut out);
     links.done(out, inn);
     Some(refuses)
 }

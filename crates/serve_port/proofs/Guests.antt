@@ -1,16 +1,17 @@
 -- Guests that are accepted one by one, and kept the other way round.
 use Rattle.std.proofs.Common.{◌≡◌, ℕ, suc, ◌+◌, ◌-◌, ◌<◌, ◌≤◌, List, [], ◌∷◌, ◌++◌, length, reverse, map, Result, Ok, Err, refl, sym, ap, ◌∙◌, subst, arith, append_assoc, append-nil, length-append}
-use Rattle.std.specs.Prelude.{All}
+use Rattle.std.specs.Prelude.{All, true}
 use Rattle.std.proofs.lemmas.List.{length-reverse, reverse-append, reverse-reverse, length-map}
-use Rattle.std.proofs.lemmas.List.Elements.{All-nil, All-cons, All-map, All-weaker}
+use Rattle.std.proofs.lemmas.List.Elements.{All-nil, All-cons, All-head, All-rest, All-map, All-weaker}
 use Rattle.sock_io.specs.declared.link.OpenFault.{OpenFault}
 use Rattle.sock_io.specs.declared.link.OpenFault.TheVariants as open_
 use Rattle.sock_io.specs.FaultCauses.{Rose}
-use Rattle.sock_io.specs.LinkHalves.{LinkerState}
+use Rattle.sock_io.specs.LinkHalves.{OutState, InState, LinkerState}
+use Rattle.serve_port.specs.declared.connection.Connection.{Connection}
 use Rattle.serve_port.specs.declared.service.ServeFault.{ServeFault}
 use Rattle.serve_port.specs.declared.service.ServeFault.TheVariants as fault_
-use Rattle.serve_port.specs.ServingConnections.{ServedConnection, IsServed, AnswersBy, ServesConnections}
-use Rattle.serve_port.specs.ServiceSteps.{AcceptedBy, AcceptsRest, AcceptsBeside}
+use Rattle.serve_port.specs.ServingConnections.{ServedConnection, IsServed, IsEndOfFinished, GivesBackFinished, AnswersBy, ServesConnections}
+use Rattle.serve_port.specs.ServiceSteps.{AcceptedBy, AcceptsRest, AcceptsBeside, HasServed, IsFinished, as_served}
 
 module _ {G : Type 0} (served : G → Type 0) where
   -- none
@@ -74,6 +75,9 @@ module _ {G : Type 0} (served : G → Type 0) where
   pub in_order : (count : ℕ) (old new : LinkerState) (kept : List G) (r : Result (Unit {0}) OpenFault) → (a : AcceptsRest served count old new [] kept r) → reverse kept ≡ a.news
   in_order count old new kept r a = ap reverse a.stacked ∙ reverse-reverse a.news
 
+  pub turned_served : (count : ℕ) (old new : LinkerState) (kept turned : List G) (r : Result (Unit {0}) OpenFault) → AcceptsRest served count old new [] kept r → turned ≡ reverse kept → All served turned
+  turned_served count old new kept turned r a t = subst (All served) (sym (t ∙ in_order count old new kept r a)) a.each
+
 -- all were given back in that order
 module _ {G : Type 0} (served : G → Type 0) (f : G → ServedConnection) (is : (x : G) → served x → IsServed (f x)) where
   all_are : (xs : List G) → All served xs → All IsServed (map f xs)
@@ -106,3 +110,34 @@ none_served count s = record {
   links = let e : s.accepted ≡ s.accepted + 0 = omega arith in λ i. record s { accepted = e i; done = sym (append-nil s.done) i };
   answer = (refl, refl, refl);
 }
+
+-- ## Finished
+
+module _ {O I : Type 0} (out : O → OutState) (inn : I → InState) where
+  pub all_finished : (turned : List (Connection O I)) → All (HasServed out inn) turned → All (IsFinished out) turned
+  all_finished turned a = All-weaker (HasServed out inn) (IsFinished out) (λ c h. h.finished) turned a
+
+  pub given_finished : (turned : List (Connection O I)) (old new : LinkerState) → All (IsFinished out) turned → new.done ≡ old.done ++ map (λ (s : ServedConnection). s.connection) (map (as_served out inn) turned) → GivesBackFinished out inn old new
+  given_finished turned old new a e = record {
+    given = map (λ (s : ServedConnection). s.connection) (map (as_served out inn) turned);
+    last = e;
+    each = All-map (IsEndOfFinished out inn) (λ (s : ServedConnection). s.connection) (map (as_served out inn) turned)
+        (All-map (λ (s : ServedConnection). IsEndOfFinished out inn s.connection) (as_served out inn) turned
+        (All-weaker (IsFinished out) (λ c. IsEndOfFinished out inn (as_served out inn c).connection) (λ c h. record { out = c.out; inn = c.inn; is_end = refl; finished = h }) turned a));
+  }
+
+  pub accepted_finished : (count : ℕ) (old mid new : LinkerState) (kept turned : List (Connection O I)) (r : Result (Unit {0}) OpenFault) → AcceptsRest (HasServed out inn) count old mid [] kept r → turned ≡ reverse kept
+      → new ≡ record mid { done = mid.done ++ map (λ (s : ServedConnection). s.connection) (map (as_served out inn) turned) } → GivesBackFinished out inn old new
+  accepted_finished count old mid new kept turned r a t n =
+      given_finished turned old new (all_finished turned (turned_served (HasServed out inn) count old mid kept turned r a t))
+      (ap (λ (s : LinkerState). s.done) n ∙ ap (λ (s : LinkerState). s.done ++ map (λ (x : ServedConnection). x.connection) (map (as_served out inn) turned)) a.links)
+
+  pub none_given : (s : LinkerState) → GivesBackFinished out inn s s
+  none_given s = record { given = []; last = sym (append-nil s.done); each = All-nil (IsEndOfFinished out inn) }
+
+  -- the next one, and those behind it
+  pub next_finished : (left rest : List (Connection O I)) (c : Connection O I) → All (IsFinished out) left → left ≡ c ∷ rest → (out c.out).finished ≡ true
+  next_finished left rest c a e = All-head (IsFinished out) c rest (subst (All (IsFinished out)) e a)
+
+  pub rest_finished : (left rest : List (Connection O I)) (c : Connection O I) → All (IsFinished out) left → left ≡ c ∷ rest → All (IsFinished out) rest
+  rest_finished left rest c a e = All-rest (IsFinished out) c rest left e a

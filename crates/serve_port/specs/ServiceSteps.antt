@@ -52,8 +52,13 @@ pub record AnswersPiece (out : OutState) (c : Held) (piece : List ℕ) (result :
 abbrev pub as_served : {O I : Type 0} → (O → OutState) → (I → InState) → Connection O I → ServedConnection
 as_served out inn c = record { service = c.service; connection = end_of (out c.out) (inn c.inn) }
 
-abbrev pub HasServed : {O I : Type 0} → (O → OutState) → (I → InState) → Connection O I → Type 0
-HasServed out inn c = Serves c.service (end_of (out c.out) (inn c.inn))
+-- its writing half was finished
+abbrev pub IsFinished : {O I : Type 0} → (O → OutState) → Connection O I → Type 0
+IsFinished out c = (out c.out).finished ≡ true
+
+pub record HasServed {O I : Type 0} (out : O → OutState) (inn : I → InState) (c : Connection O I) : Type 0 where
+  pub serves : Serves c.service (end_of (out c.out) (inn c.inn))
+  pub finished : IsFinished out c
 
 -- so many were to be accepted and all were; or an accept failed by the count of faults; or memory ran out
 abbrev pub AcceptedBy : (count accepted before now : ℕ) → Result (Unit {0}) OpenFault → Type 0

@@ -6,7 +6,7 @@ use Rattle.brpc_model.specs.Reply.{reply_frames, replies}
 use Rattle.brpc_model.specs.ReturnedLink.{LinkEnd}
 use Rattle.rpc_server.specs.Feeding.{has_fault}
 use Rattle.sock_io.specs.FaultCauses.{Rose}
-use Rattle.sock_io.specs.LinkHalves.{LinkerState}
+use Rattle.sock_io.specs.LinkHalves.{OutState, InState, LinkerState, end_of}
 use Rattle.serve_port.specs.declared.service.Service.{Service}
 use Rattle.serve_port.specs.declared.service.ServiceEnd.{ServiceEnd}
 use Rattle.serve_port.specs.declared.service.ServiceEnd.TheVariants as end_
@@ -86,6 +86,23 @@ all_whole served = list_all (λ (s : ServedConnection). is_whole s.service.end) 
 -- how many frames had replies in all
 abbrev pub frames_of : List ServedConnection → ℕ
 frames_of served = sum (map (λ (s : ServedConnection). s.service.frames) served)
+
+-- ## Finished
+
+-- halves that ended so, of which the writing half was finished; a connection that was given back doesn't tell that itself
+pub record IsEndOfFinished {O I : Type 0} (out_of : O → OutState) (in_of : I → InState) (c : LinkEnd) : Type 0 where
+  pub out : O
+  pub inn : I
+  pub is_end : c ≡ end_of (out_of out) (in_of inn)
+  pub finished : (out_of out).finished ≡ true
+
+-- each connection that was given back meanwhile was finished first
+pub record GivesBackFinished {O I : Type 0} (out_of : O → OutState) (in_of : I → InState) (old new : LinkerState) : Type 0 where
+  pub given : List LinkEnd
+  pub last : new.done ≡ old.done ++ given
+  pub each : All (IsEndOfFinished out_of in_of) given
+
+-- ## The answer
 
 -- What serving so many connections answers, with the linker's count of faults before and now: the number of replies where each was served whole; that
 -- an accept failed, by that count; else that a put or a take of a connection failed; else that one met a frame fault; else want of memory.

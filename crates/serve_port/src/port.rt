@@ -1,7 +1,7 @@
 // A port at which connections are served.
-ghost use Rattle.std.specs.Prelude.{◌≡◌, ◌+◌, ◌≤◌, ◌++◌, length, map};
-ghost use Rattle.serve_port.specs.ServingConnections.{ServesConnections};
-ghost use Rattle.serve_port.specs.ServiceSteps.{IsTally, as_served};
+ghost use Rattle.std.specs.Prelude.{◌≡◌, ◌+◌, ◌≤◌, ◌++◌, All, length, map};
+ghost use Rattle.serve_port.specs.ServingConnections.{GivesBackFinished, ServesConnections};
+ghost use Rattle.serve_port.specs.ServiceSteps.{IsFinished, IsTally, as_served};
 
 use crate::accepting::serve_rest;
 use crate::connection::Connection;
@@ -15,7 +15,8 @@ use std::thread::Threads;
 
 /// Gives the connections back, in order.
 fn give_back<L: Linker>(links: &mut L, kept: Vec<Connection<L::O, L::I>>) -> Tally
-    requires { length (L.state links.old).done + length kept.items ≤ (L.state links.old).accepted }
+    requires few { length (L.state links.old).done + length kept.items ≤ (L.state links.old).accepted }
+    requires finished { All (IsFinished L.O.state) kept.items }
     ensures links { L.state links.new ≡ record (L.state links.old) { done = (L.state links.old).done ++ map (λ s. s.connection) (map (λ c. as_served L.O.state L.I.state c) kept.items) } }
     ensures tally { IsTally (map (λ c. as_served L.O.state L.I.state c) kept.items) result }
 {
@@ -40,7 +41,8 @@ pub fn serve_all<R: Threads + Wait + Sync, L: Linker>(
 ) -> Result<u64, ServeFault>
     requires few { (L.state links.old).accepted + count ≤ 256 }
     requires done { length (L.state links.old).done ≤ (L.state links.old).accepted }
-    ensures { ServesConnections count (L.state links.old) (L.state links.new) result }
+    ensures serves { ServesConnections count (L.state links.old) (L.state links.new) result }
+    ensures finished { GivesBackFinished L.O.state L.I.state (L.state links.old) (L.state links.new) }
 {
     let count = usize::from(count);
     let Ok(kept) = Vec::with_capacity(alloc, count) else {
