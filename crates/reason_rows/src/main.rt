@@ -8,8 +8,7 @@ use row_text::expanded;
 use script_reasons::tell_script;
 use sock_io::MemSink;
 use std::alloc::{AllocError, Global};
-use std::io;
-use std::str;
+use std::{io, str};
 
 /// So much may be written.
 const ROOM: usize = 4_096;

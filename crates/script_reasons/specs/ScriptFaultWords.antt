@@ -1,5 +1,5 @@
 -- What is wrong with a script, and how it is said.
-use Rattle.std.specs.Prelude.{ℕ, ◌-◌, ◌==◌, ◌&&◌, nat_le, if◌then◌else◌, List, [], ◌∷◌, codes, decimal, Result, Ok, Err}
+use Rattle.std.specs.Prelude.{ℕ, Bool, ◌-◌, ◌==◌, ◌&&◌, bytes_eq, nat_le, if◌then◌else◌, List, [], ◌∷◌, codes, decimal, Result, Ok, Err}
 use Rattle.std.specs.Str.Lines.{lines}
 use Rattle.brpc_model.specs.Script.{Faulty, script_of}
 use Rattle.brpc_model.specs.Items.{Item}
@@ -15,6 +15,17 @@ numbered n (text ∷ more) = if nat_le n 1 then text else numbered (n - 1) more
 -- the word of this number in a line
 abbrev pub word_of : ℕ → List ℕ → List ℕ
 word_of n line = numbered n (words line)
+
+-- a line that opens a link
+abbrev pub opens : List ℕ → Bool
+opens line = bytes_eq (word_of 1 line) (codes "open")
+
+-- the name in the line that opens the link of this number, from 0 on; nothing where there are fewer
+abbrev pub opened_name : ℕ → List (List ℕ) → List ℕ
+opened_name number [] = []
+opened_name number (line ∷ more) =
+    if opens line then (if number == 0 then word_of 2 line else opened_name (number - 1) more)
+    else opened_name number more
 
 -- ## What a fault is
 

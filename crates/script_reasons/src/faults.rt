@@ -17,7 +17,8 @@ fn kind_text(kind: u8) -> &'static [u8]
         1 => b"a byte that is neither a space nor a printable ASCII character",
         2 => b"an unknown first word",
         3 => b"a wrong number of words, an unknown option or one given twice",
-        4 => b"a number that is malformed or out of its range, or a seat that the script doesn't have",
+        4 =>
+            b"a number that is malformed or out of its range, or a seat that the script doesn't have",
         5 => b"bad hexadecimal",
         6 => b"a length out of its limits",
         7 => b"a malformed name, service, method or kind of step",

@@ -9,10 +9,12 @@ fn form_by(a: u8, b: u8) -> &'static [u8]
         (b's', b'l') => b"; the form is slots N, from 1 to 31\n",
         (b'r', b'e') => b"; the form is requests N, from 1 to 4096\n",
         (b'f', b'i') => b"; the form is first V, an even number from 0 to 4294967292\n",
-        (b'o', b'p') => b"; the form is open NAME [piece=1..65536] [again=2..65536] [fail=1..65536] [serve] [end=0..65536]\n",
+        (b'o', b'p') =>
+            b"; the form is open NAME [piece=1..65536] [again=2..65536] [fail=1..65536] [serve] [end=0..65536]\n",
         (b'c', b'l') => b"; the form is client\n",
         (b's', b'e') => b"; the form is send NAME HEX\n",
-        (b'c', b'a') => b"; the form is call NAME[,NAME] SERVICE.METHOD HEX [att=HEX] [retry=0..6]\n",
+        (b'c', b'a') =>
+            b"; the form is call NAME[,NAME] SERVICE.METHOD HEX [att=HEX] [retry=0..6]\n",
         (b'e', b'x') => b"; the form is expire C.I\n",
         (b'j', b'o') => b"; the form is join C.I\n",
         (b'f', b'a') => b"; the form is fail NAME CODE, from 1500 to 1999\n",
@@ -21,7 +23,8 @@ fn form_by(a: u8, b: u8) -> &'static [u8]
         (b's', b'c') => b"; the form is sched\n",
         (b't', b'i') => b"; the form is tick SEAT N, from 1 to 65536\n",
         (b't', b'o') => b"; the form is to SEAT KIND\n",
-        _ => b"; a line begins with slots, requests, first, open, client, send, call, expire, join, fail, hold, drop, sched, tick and to\n",
+        _ =>
+            b"; a line begins with slots, requests, first, open, client, send, call, expire, join, fail, hold, drop, sched, tick and to\n",
     }
 }
 
@@ -31,7 +34,8 @@ pub fn nearest_form(word: &[u8]) -> &'static [u8]
 {
     match word {
         [a, b, ..] => form_by(*a, *b),
-        _ => b"; a line begins with slots, requests, first, open, client, send, call, expire, join, fail, hold, drop, sched, tick and to\n",
+        _ =>
+            b"; a line begins with slots, requests, first, open, client, send, call, expire, join, fail, hold, drop, sched, tick and to\n",
     }
 }
 
@@ -89,12 +93,6 @@ pub fn place_of(kind: u8, first: &[u8]) -> u32
 {
     match first {
         [a, b, ..] => place_by(kind, *a, *b),
-        _ => {
-            if kind == 2 {
-                1
-            } else {
-                0
-            }
-        }
+        _ => { if kind == 2 { 1 } else { 0 } }
     }
 }

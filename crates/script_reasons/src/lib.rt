@@ -9,3 +9,4 @@ mod places;
 
 pub use faults::{tell_script, tell_unknown};
 pub use kept::Kept;
+pub use places::opened_name;
