@@ -1,7 +1,8 @@
 // The arguments that the program is started with.
-ghost use Rattle.std.specs.Prelude.{◌≡◌, IfOk, drop};
+ghost use Rattle.std.specs.Prelude.{◌≡◌, IfOk, drop, map, string_bytes};
 ghost use Rattle.std.specs.Vec.Iter.{into_iter_items};
 ghost use Rattle.brpc_main.specs.CommandLineWords.{arguments};
+ghost use Rattle.brpc_main.specs.ProgramEnding.{begins_with_serve};
 
 use std::alloc::{AllocError, Global};
 use std::env::Args;
@@ -31,5 +32,15 @@ pub fn behind_first(args: &[String]) -> &[String]
     match args.split_first() {
         Some((_, words)) => words,
         None => &[],
+    }
+}
+
+/// Whether the first word is `serve`.
+pub fn is_serve(words: &[String]) -> bool
+    ensures { result ≡ begins_with_serve (map string_bytes words.now) }
+{
+    match words.split_first() {
+        Some((word, _)) => word.as_str() == "serve",
+        None => false,
     }
 }

@@ -6,14 +6,16 @@ ghost use Rattle.std.specs.declared.vec.IntoIter.{IntoIter};
 ghost use Rattle.brpc_eng.specs.ProgramAnswers.{UnusedLinker};
 ghost use Rattle.brpc_further.specs.FurtherAnswers.{may_wait};
 ghost use Rattle.brpc_main.specs.CommandLineWords.{words_behind};
-ghost use Rattle.brpc_main.specs.ProgramEnding.{Ends, EndsAlone, EndsBy, begins_with_serve};
+ghost use Rattle.brpc_main.specs.ProgramEnding.{Ends, EndsAlone, EndsBy};
 
-use crate::arguments::{all_of, behind_first};
-use crate::run::{ended, run_alone, run_with};
+use crate::arguments::{all_of, behind_first, is_serve};
+use crate::run::{out_of_memory, run_alone, run_with};
 use brpc_further::may_wait;
+use link_reasons::Watched;
 use loop_link::{LoopIn, LoopLinker};
 use net_link::{TcpHalf, TcpIn, TcpLinker};
 use prog_link::{ProgIn, ProgLinker, ProgOut};
+use script_reasons::Kept;
 use sock_io::{In, Linker, MemOut, OpenGate, Out, Shaped, StdEdge};
 use std::alloc::Global;
 use std::env::{Args, Env};
@@ -22,9 +24,6 @@ use std::process::ExitCode;
 use std::sync::Wait;
 use std::thread::Threads;
 use std::{env, io};
-
-/// The status of want of memory.
-const NO_MEMORY: u8 = 7;
 
 /// The program over its standard streams, with the arguments that it was started with: what std reads of these no contract says, so
 /// here they are some arguments, and `run_arguments` is the program at any.
@@ -39,7 +38,7 @@ pub fn run_program<
         + Net<Stream = TcpStream, Listener = TcpListener>,
     E: Print,
 >(rt: &R, errors: &E) -> ExitCode
-    ensures { (args : Result (IntoIter (String Global) Global) Error) × ((exit_status result ≡ 7) ⊎ EndsBy (EndsAlone ⟦<LoopLinker as Linker>⟧.goes_by_shape ⟦<Shaped<MemOut> as Out>⟧.state ⟦<LoopIn as In>⟧.state ⟦<LoopLinker as Linker>⟧.tells_in) (Ends ⟦<ProgLinker<&'static R> as Linker>⟧.goes_by_shape ⟦<ProgOut as Out>⟧.state ⟦<ProgIn as In>⟧.state ⟦<ProgLinker<&'static R> as Linker>⟧.tells_in) (Ends ⟦<TcpLinker<&'static R> as Linker>⟧.goes_by_shape ⟦<TcpHalf as Out>⟧.state ⟦<TcpIn as In>⟧.state ⟦<TcpLinker<&'static R> as Linker>⟧.tells_in) (words_behind args) (exit_status result)) }
+    ensures { (args : Result (IntoIter (String Global) Global) Error) × ((exit_status result ≡ 7) ⊎ EndsBy (EndsAlone ⟦<Shaped<MemOut> as Out>⟧.state ⟦<LoopIn as In>⟧.state ⟦<LoopLinker as Linker>⟧.tells_in) (Ends ⟦<ProgOut as Out>⟧.state ⟦<ProgIn as In>⟧.state ⟦<ProgLinker<&'static R> as Linker>⟧.tells_in) (Ends ⟦<TcpHalf as Out>⟧.state ⟦<TcpIn as In>⟧.state ⟦<TcpLinker<&'static R> as Linker>⟧.tells_in) (words_behind args) (exit_status result)) }
 {
     run_arguments(rt, env::args(rt), errors)
 }
@@ -57,11 +56,11 @@ pub fn run_arguments<
         + Net<Stream = TcpStream, Listener = TcpListener>,
     E: Print,
 >(rt: &R, args: io::Result<Args>, errors: &E) -> ExitCode
-    ensures { (exit_status result ≡ 7) ⊎ EndsBy (EndsAlone ⟦<LoopLinker as Linker>⟧.goes_by_shape ⟦<Shaped<MemOut> as Out>⟧.state ⟦<LoopIn as In>⟧.state ⟦<LoopLinker as Linker>⟧.tells_in) (Ends ⟦<ProgLinker<&'static R> as Linker>⟧.goes_by_shape ⟦<ProgOut as Out>⟧.state ⟦<ProgIn as In>⟧.state ⟦<ProgLinker<&'static R> as Linker>⟧.tells_in) (Ends ⟦<TcpLinker<&'static R> as Linker>⟧.goes_by_shape ⟦<TcpHalf as Out>⟧.state ⟦<TcpIn as In>⟧.state ⟦<TcpLinker<&'static R> as Linker>⟧.tells_in) (words_behind args) (exit_status result) }
+    ensures { (exit_status result ≡ 7) ⊎ EndsBy (EndsAlone ⟦<Shaped<MemOut> as Out>⟧.state ⟦<LoopIn as In>⟧.state ⟦<LoopLinker as Linker>⟧.tells_in) (Ends ⟦<ProgOut as Out>⟧.state ⟦<ProgIn as In>⟧.state ⟦<ProgLinker<&'static R> as Linker>⟧.tells_in) (Ends ⟦<TcpHalf as Out>⟧.state ⟦<TcpIn as In>⟧.state ⟦<TcpLinker<&'static R> as Linker>⟧.tells_in) (words_behind args) (exit_status result) }
 {
     match all_of(rt.alloc(), args) {
         Ok(args) => run_words(rt, behind_first(&args), errors),
-        Err(_) => ended(NO_MEMORY, &[], &mut StdEdge::new(io::writer(errors))),
+        Err(_) => out_of_memory(&mut StdEdge::new(io::writer(errors))),
     }
 }
 
@@ -77,18 +76,19 @@ fn run_words<
         + Net<Stream = TcpStream, Listener = TcpListener>,
     E: Print,
 >(rt: &R, words: &[String], errors: &E) -> ExitCode
-    ensures { EndsBy (EndsAlone ⟦<LoopLinker as Linker>⟧.goes_by_shape ⟦<Shaped<MemOut> as Out>⟧.state ⟦<LoopIn as In>⟧.state ⟦<LoopLinker as Linker>⟧.tells_in) (Ends ⟦<ProgLinker<&'static R> as Linker>⟧.goes_by_shape ⟦<ProgOut as Out>⟧.state ⟦<ProgIn as In>⟧.state ⟦<ProgLinker<&'static R> as Linker>⟧.tells_in) (Ends ⟦<TcpLinker<&'static R> as Linker>⟧.goes_by_shape ⟦<TcpHalf as Out>⟧.state ⟦<TcpIn as In>⟧.state ⟦<TcpLinker<&'static R> as Linker>⟧.tells_in) (map string_bytes words.now) (exit_status result) }
+    ensures { EndsBy (EndsAlone ⟦<Shaped<MemOut> as Out>⟧.state ⟦<LoopIn as In>⟧.state ⟦<LoopLinker as Linker>⟧.tells_in) (Ends ⟦<ProgOut as Out>⟧.state ⟦<ProgIn as In>⟧.state ⟦<ProgLinker<&'static R> as Linker>⟧.tells_in) (Ends ⟦<TcpHalf as Out>⟧.state ⟦<TcpIn as In>⟧.state ⟦<TcpLinker<&'static R> as Linker>⟧.tells_in) (map string_bytes words.now) (exit_status result) }
 {
     let alloc = rt.alloc();
     if !may_wait(words) {
-        let mut links = LoopLinker::new(alloc, Vec::new(alloc));
+        let mut links = Watched::new(LoopLinker::new(alloc, Vec::new(alloc)));
         return alone_over(rt, words, &mut links, errors);
     }
     if is_serve(words) {
-        let mut links = TcpLinker::accepting(rt, alloc, connections(words));
+        let mut links = Watched::new(TcpLinker::accepting(rt, alloc, connections(words)));
         return run_over(rt, words, &mut links, errors);
     }
-    run_over(rt, words, &mut ProgLinker::new(rt, alloc), errors)
+    let mut links = Watched::new(ProgLinker::new(rt, alloc));
+    run_over(rt, words, &mut links, errors)
 }
 
 /// How many connections `serve PORT N` accepts; behind the last nobody listens any more. 256 where the words aren't these.
@@ -99,27 +99,25 @@ fn connections(words: &[String]) -> u16 {
     }
 }
 
-/// Whether the first word is `serve`.
-fn is_serve(words: &[String]) -> bool
-    ensures { result ≡ begins_with_serve (map string_bytes words.now) }
-{
-    match words.split_first() {
-        Some((word, _)) => word.as_str() == "serve",
+/// Whether the words may ask for a script to be read: the first is none of those that read none.
+fn reads_script(words: &[String]) -> bool {
+    match words.first() {
+        Some(word) => word.as_str() != "frames",
         None => false,
     }
 }
 
 /// The program with these words over these links and the standard streams.
-fn run_over<R: Threads + Wait + Sync + Alloc<A = Global> + Input + Print, L: Linker, E: Print>(
-    rt: &R,
-    words: &[String],
-    links: &mut L,
-    errors: &E,
-) -> ExitCode
-    requires unused { UnusedLinker (L.state links.old) }
+fn run_over<
+    R: Threads + Wait + Sync + Alloc<A = Global> + Input + Print,
+    L: Linker + Drop,
+    E: Print,
+>(rt: &R, words: &[String], links: &mut Watched<L>, errors: &E) -> ExitCode
+    requires unused { UnusedLinker links.old.links }
     ensures { Ends L.goes_by_shape L.O.state L.I.state L.tells_in (map string_bytes words.now) (exit_status result) }
 {
-    let mut source = StdEdge::new(rt.reader());
+    let edge = StdEdge::new(rt.reader());
+    let mut source = Kept::new(rt.alloc(), edge, reads_script(words));
     let mut out = StdEdge::new(io::writer(rt));
     let mut errors = StdEdge::new(io::writer(errors));
     run_with(
@@ -135,17 +133,18 @@ fn run_over<R: Threads + Wait + Sync + Alloc<A = Global> + Input + Print, L: Lin
 }
 
 /// The same where the words ask for nothing that may wait: it has no right to wait, so it ends.
-fn alone_over<R: Alloc<A = Global> + Input + Print, L: Linker, E: Print>(
+fn alone_over<R: Alloc<A = Global> + Input + Print, L: Linker + Drop, E: Print>(
     rt: &R,
     words: &[String],
-    links: &mut L,
+    links: &mut Watched<L>,
     errors: &E,
 ) -> ExitCode
     requires alone { may_wait (map string_bytes words.now) ≡ false }
-    requires unused { UnusedLinker (L.state links.old) }
+    requires unused { UnusedLinker links.old.links }
     ensures { EndsAlone L.goes_by_shape L.O.state L.I.state L.tells_in (map string_bytes words.now) (exit_status result) }
 {
-    let mut source = StdEdge::new(rt.reader());
+    let edge = StdEdge::new(rt.reader());
+    let mut source = Kept::new(rt.alloc(), edge, reads_script(words));
     let mut out = StdEdge::new(io::writer(rt));
     let mut errors = StdEdge::new(io::writer(errors));
     run_alone(rt.alloc(), words, &mut source, &mut out, links, &mut errors)

@@ -1,10 +1,17 @@
-ghost use Rattle.std.specs.Prelude.{◌≡◌, map, string_bytes};
+ghost use Rattle.std.specs.Prelude.{◌≡◌, ◌⊎◌, ◌<◌, ◌^◌, IfSome, length, map, option_map, string_bytes};
 ghost use Rattle.frame_print.specs.TextWrittenToSink.{Writes};
 ghost use Rattle.brpc_eng.specs.ProgramAnswers.{Wrote, sink_over};
-ghost use Rattle.brpc_main.specs.EarlyEndReasons.{reason_text, status_text};
+ghost use Rattle.script_reasons.specs.KeptSource.{kept_of};
+ghost use Rattle.script_reasons.specs.ScriptFaultWords.{unknown_text};
+ghost use Rattle.link_reasons.specs.LinkFaultWords.{links_text};
+ghost use Rattle.brpc_main.specs.EarlyEndReasons.{Explained, frame_text, kept_text, other_text, status_text};
 
+use crate::arguments::is_serve;
 use brpc_reasons::tell_words;
-use sock_io::{Failed, Sink, write_all};
+use link_reasons::{Missed, tell_links};
+use script_reasons::{Kept, tell_script, tell_unknown};
+use sock_io::{Failed, Sink, Source, write_all};
+use std::alloc::Global;
 
 /// Why the program ends with this status, where its output doesn't say it; else nothing.
 fn reason(status: u8) -> &'static [u8]
@@ -15,29 +22,112 @@ fn reason(status: u8) -> &'static [u8]
         5 => b"brpc: the output failed\n",
         6 => b"brpc: the input is longer than the command takes\n",
         7 => b"brpc: memory ran out\n",
-        8 => b"brpc: a link could not be opened, or a connection failed\n",
-        9 => b"brpc: a frame is faulty\n",
         _ => b"",
     }
 }
 
-/// Writes that line, or what is wrong with the words.
-fn tell<E: Sink>(errors: &mut E, words: &[String], status: u8) -> Result<(), Failed>
-    ensures { Writes (E.state errors.old) (E.state errors.new) (reason_text (map string_bytes words.now) status) result }
+/// Where a faulty frame came from.
+fn frame_reason(words: &[String]) -> &'static [u8]
+    ensures { result.now ≡ frame_text (map string_bytes words.now) }
+{
+    if is_serve(words) {
+        b"brpc: a connection gave a faulty frame\n"
+    } else {
+        b"brpc: the input has a faulty frame\n"
+    }
+}
+
+/// Writes the line of a status.
+fn tell_status<E: Sink>(errors: &mut E, status: u8) -> Result<(), Failed>
+    ensures { Writes (E.state errors.old) (E.state errors.new) (status_text status) result }
+{
+    write_all(errors, reason(status))
+}
+
+/// Says why the program ends with this status by the status alone.
+pub fn explain_status<E: Sink>(errors: &mut E, status: u8)
+    ensures { Wrote (sink_over (E.state errors.old) (E.state errors.new)) (status_text status) }
+{
+    match tell_status(errors, status) {
+        Ok(()) => {}
+        Err(Failed) => {}
+    }
+}
+
+/// Writes that line, or what is wrong with the words, or where a faulty frame came from.
+fn tell_other<E: Sink>(errors: &mut E, words: &[String], status: u8) -> Result<(), Failed>
+    ensures { Writes (E.state errors.old) (E.state errors.new) (other_text (map string_bytes words.now) status) result }
 {
     if status == 2 {
         tell_words(errors, words)
+    } else if status == 9 {
+        write_all(errors, frame_reason(words))
     } else {
         write_all(errors, reason(status))
     }
 }
 
-/// Writes why the program ends with this status: whole, or a beginning of it where the count of faults rose.
-pub fn explain<E: Sink>(errors: &mut E, words: &[String], status: u8)
-    ensures { Wrote (sink_over (E.state errors.old) (E.state errors.new)) (reason_text (map string_bytes words.now) status) }
+/// Says why the program ends with a status that neither the script nor the links explain.
+fn explain_other<E: Sink>(errors: &mut E, words: &[String], status: u8)
+    ensures { Wrote (sink_over (E.state errors.old) (E.state errors.new)) (other_text (map string_bytes words.now) status) }
 {
-    match tell(errors, words, status) {
+    match tell_other(errors, words, status) {
         Ok(()) => {}
         Err(Failed) => {}
+    }
+}
+
+/// Writes what is wrong with the script of which this was kept.
+fn tell_kept<E: Sink>(alloc: Global, errors: &mut E, kept: Option<&[u8]>) -> Result<(), Failed>
+    requires { IfSome kept (λ bytes. length bytes.now < 2 ^ 32) }
+    ensures { Writes (E.state errors.old) (E.state errors.new) (kept_text (option_map (λ bytes. bytes.now) kept)) result ⊎ Writes (E.state errors.old) (E.state errors.new) unknown_text result }
+{
+    match kept {
+        Some(bytes) => tell_script(alloc, errors, bytes),
+        None => tell_unknown(errors),
+    }
+}
+
+/// Says what is wrong with the script that this source kept.
+fn explain_script<S: Source + Drop, E: Sink>(alloc: Global, errors: &mut E, source: &Kept<S>)
+    ensures { Wrote (sink_over (E.state errors.old) (E.state errors.new)) (kept_text (kept_of source.now)) ⊎ Wrote (sink_over (E.state errors.old) (E.state errors.new)) unknown_text }
+{
+    match tell_kept(alloc, errors, source.bytes()) {
+        Ok(()) => {}
+        Err(Failed) => {}
+    }
+}
+
+/// Says which link or connection failed, by the script that this source kept.
+fn explain_links<S: Source + Drop, E: Sink>(
+    errors: &mut E,
+    source: &Kept<S>,
+    missed: Option<Missed>,
+)
+    ensures { Wrote (sink_over (E.state errors.old) (E.state errors.new)) (links_text (kept_of source.now) missed) }
+{
+    match tell_links(errors, missed, source.bytes()) {
+        Ok(()) => {}
+        Err(Failed) => {}
+    }
+}
+
+/// Writes why the program ends with this status: whole, or a beginning of it where the count of faults rose.
+pub fn explain<S: Source + Drop, E: Sink>(
+    alloc: Global,
+    errors: &mut E,
+    words: &[String],
+    source: &Kept<S>,
+    missed: Option<Missed>,
+    status: u8,
+)
+    ensures { Explained (sink_over (E.state errors.old) (E.state errors.new)) (map string_bytes words.now) (kept_of source.now) missed status }
+{
+    if status == 3 {
+        explain_script(alloc, errors, source);
+    } else if status == 8 {
+        explain_links(errors, source, missed);
+    } else {
+        explain_other(errors, words, status);
     }
 }

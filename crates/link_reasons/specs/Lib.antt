@@ -1,0 +1,2 @@
+pub mod LinkFaultWords
+pub mod WatchedLinks

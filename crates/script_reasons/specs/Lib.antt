@@ -1,0 +1,2 @@
+pub mod ScriptFaultWords
+pub mod KeptSource
