@@ -4,8 +4,6 @@ use Rattle.brpc_eng.specs.ProgramAnswers.{Output, Wrote}
 use Rattle.brpc_main.specs.ProgramEnding.{begins_with_serve}
 use Rattle.brpc_reasons.specs.WrongWords.{words_text}
 use Rattle.script_reasons.specs.ScriptFaultWords.{script_text, unknown_text}
-use Rattle.link_reasons.specs.LinkFaultWords.{links_text}
-use Rattle.link_reasons.specs.declared.missed.Missed.{Missed}
 
 -- a line for each status that the output itself doesn't always explain: nothing stands there, or a part
 abbrev pub status_text : ℕ → List ℕ
@@ -14,6 +12,7 @@ status_text status =
     else if status == 5 then codes "brpc: the output failed\n"
     else if status == 6 then codes "brpc: the input is longer than the command takes\n"
     else if status == 7 then codes "brpc: memory ran out\n"
+    else if status == 8 then codes "brpc: a link could not be opened, or a connection failed\n"
     else []
 
 -- of a faulty frame where it came from
@@ -32,14 +31,10 @@ abbrev pub kept_text : Option (List ℕ) → List ℕ
 kept_text (Some bytes) = script_text bytes
 kept_text None = unknown_text
 
--- what is said where a command ends with a status: of a script that is faulty what is wrong in which line; of links and connections which
--- failed first
-abbrev pub reason_text : List (List ℕ) → Option (List ℕ) → Option Missed → ℕ → List ℕ
-reason_text words kept missed status =
-    if status == 3 then kept_text kept
-    else if status == 8 then links_text kept missed
-    else other_text words status
+-- what is said where a command ends with a status: of a script that is faulty what is wrong in which line
+abbrev pub reason_text : List (List ℕ) → Option (List ℕ) → ℕ → List ℕ
+reason_text words kept status = if status == 3 then kept_text kept else other_text words status
 
 -- so it was said; or, where memory ran out as the script was read again, that it is faulty
-abbrev pub Explained : Output → List (List ℕ) → Option (List ℕ) → Option Missed → ℕ → Type 0
-Explained out words kept missed status = Wrote out (reason_text words kept missed status) ⊎ ((status ≡ 3) × Wrote out unknown_text)
+abbrev pub Explained : Output → List (List ℕ) → Option (List ℕ) → ℕ → Type 0
+Explained out words kept status = Wrote out (reason_text words kept status) ⊎ ((status ≡ 3) × Wrote out unknown_text)

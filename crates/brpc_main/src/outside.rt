@@ -11,7 +11,6 @@ ghost use Rattle.brpc_main.specs.ProgramEnding.{Ends, EndsAlone, EndsBy};
 use crate::arguments::{all_of, behind_first, is_serve};
 use crate::run::{out_of_memory, run_alone, run_with};
 use brpc_further::may_wait;
-use link_reasons::Watched;
 use loop_link::{LoopIn, LoopLinker};
 use net_link::{TcpHalf, TcpIn, TcpLinker};
 use prog_link::{ProgIn, ProgLinker, ProgOut};
@@ -38,7 +37,7 @@ pub fn run_program<
         + Net<Stream = TcpStream, Listener = TcpListener>,
     E: Print,
 >(rt: &R, errors: &E) -> ExitCode
-    ensures { (args : Result (IntoIter (String Global) Global) Error) × ((exit_status result ≡ 7) ⊎ EndsBy (EndsAlone ⟦<Shaped<MemOut> as Out>⟧.state ⟦<LoopIn as In>⟧.state ⟦<LoopLinker as Linker>⟧.tells_in) (Ends ⟦<ProgOut as Out>⟧.state ⟦<ProgIn as In>⟧.state ⟦<ProgLinker<&'static R> as Linker>⟧.tells_in) (Ends ⟦<TcpHalf as Out>⟧.state ⟦<TcpIn as In>⟧.state ⟦<TcpLinker<&'static R> as Linker>⟧.tells_in) (words_behind args) (exit_status result)) }
+    ensures { (args : Result (IntoIter (String Global) Global) Error) × ((exit_status result ≡ 7) ⊎ EndsBy (EndsAlone ⟦<LoopLinker as Linker>⟧.goes_by_shape ⟦<Shaped<MemOut> as Out>⟧.state ⟦<LoopIn as In>⟧.state ⟦<LoopLinker as Linker>⟧.tells_in) (Ends ⟦<ProgLinker<&'static R> as Linker>⟧.goes_by_shape ⟦<ProgOut as Out>⟧.state ⟦<ProgIn as In>⟧.state ⟦<ProgLinker<&'static R> as Linker>⟧.tells_in) (Ends ⟦<TcpLinker<&'static R> as Linker>⟧.goes_by_shape ⟦<TcpHalf as Out>⟧.state ⟦<TcpIn as In>⟧.state ⟦<TcpLinker<&'static R> as Linker>⟧.tells_in) (words_behind args) (exit_status result)) }
 {
     run_arguments(rt, env::args(rt), errors)
 }
@@ -56,7 +55,7 @@ pub fn run_arguments<
         + Net<Stream = TcpStream, Listener = TcpListener>,
     E: Print,
 >(rt: &R, args: io::Result<Args>, errors: &E) -> ExitCode
-    ensures { (exit_status result ≡ 7) ⊎ EndsBy (EndsAlone ⟦<Shaped<MemOut> as Out>⟧.state ⟦<LoopIn as In>⟧.state ⟦<LoopLinker as Linker>⟧.tells_in) (Ends ⟦<ProgOut as Out>⟧.state ⟦<ProgIn as In>⟧.state ⟦<ProgLinker<&'static R> as Linker>⟧.tells_in) (Ends ⟦<TcpHalf as Out>⟧.state ⟦<TcpIn as In>⟧.state ⟦<TcpLinker<&'static R> as Linker>⟧.tells_in) (words_behind args) (exit_status result) }
+    ensures { (exit_status result ≡ 7) ⊎ EndsBy (EndsAlone ⟦<LoopLinker as Linker>⟧.goes_by_shape ⟦<Shaped<MemOut> as Out>⟧.state ⟦<LoopIn as In>⟧.state ⟦<LoopLinker as Linker>⟧.tells_in) (Ends ⟦<ProgLinker<&'static R> as Linker>⟧.goes_by_shape ⟦<ProgOut as Out>⟧.state ⟦<ProgIn as In>⟧.state ⟦<ProgLinker<&'static R> as Linker>⟧.tells_in) (Ends ⟦<TcpLinker<&'static R> as Linker>⟧.goes_by_shape ⟦<TcpHalf as Out>⟧.state ⟦<TcpIn as In>⟧.state ⟦<TcpLinker<&'static R> as Linker>⟧.tells_in) (words_behind args) (exit_status result) }
 {
     match all_of(rt.alloc(), args) {
         Ok(args) => run_words(rt, behind_first(&args), errors),
@@ -76,19 +75,18 @@ fn run_words<
         + Net<Stream = TcpStream, Listener = TcpListener>,
     E: Print,
 >(rt: &R, words: &[String], errors: &E) -> ExitCode
-    ensures { EndsBy (EndsAlone ⟦<Shaped<MemOut> as Out>⟧.state ⟦<LoopIn as In>⟧.state ⟦<LoopLinker as Linker>⟧.tells_in) (Ends ⟦<ProgOut as Out>⟧.state ⟦<ProgIn as In>⟧.state ⟦<ProgLinker<&'static R> as Linker>⟧.tells_in) (Ends ⟦<TcpHalf as Out>⟧.state ⟦<TcpIn as In>⟧.state ⟦<TcpLinker<&'static R> as Linker>⟧.tells_in) (map string_bytes words.now) (exit_status result) }
+    ensures { EndsBy (EndsAlone ⟦<LoopLinker as Linker>⟧.goes_by_shape ⟦<Shaped<MemOut> as Out>⟧.state ⟦<LoopIn as In>⟧.state ⟦<LoopLinker as Linker>⟧.tells_in) (Ends ⟦<ProgLinker<&'static R> as Linker>⟧.goes_by_shape ⟦<ProgOut as Out>⟧.state ⟦<ProgIn as In>⟧.state ⟦<ProgLinker<&'static R> as Linker>⟧.tells_in) (Ends ⟦<TcpLinker<&'static R> as Linker>⟧.goes_by_shape ⟦<TcpHalf as Out>⟧.state ⟦<TcpIn as In>⟧.state ⟦<TcpLinker<&'static R> as Linker>⟧.tells_in) (map string_bytes words.now) (exit_status result) }
 {
     let alloc = rt.alloc();
     if !may_wait(words) {
-        let mut links = Watched::new(LoopLinker::new(alloc, Vec::new(alloc)));
+        let mut links = LoopLinker::new(alloc, Vec::new(alloc));
         return alone_over(rt, words, &mut links, errors);
     }
     if is_serve(words) {
-        let mut links = Watched::new(TcpLinker::accepting(rt, alloc, connections(words)));
+        let mut links = TcpLinker::accepting(rt, alloc, connections(words));
         return run_over(rt, words, &mut links, errors);
     }
-    let mut links = Watched::new(ProgLinker::new(rt, alloc));
-    run_over(rt, words, &mut links, errors)
+    run_over(rt, words, &mut ProgLinker::new(rt, alloc), errors)
 }
 
 /// How many connections `serve PORT N` accepts; behind the last nobody listens any more. 256 where the words aren't these.
@@ -108,12 +106,13 @@ fn reads_script(words: &[String]) -> bool {
 }
 
 /// The program with these words over these links and the standard streams.
-fn run_over<
-    R: Threads + Wait + Sync + Alloc<A = Global> + Input + Print,
-    L: Linker + Drop,
-    E: Print,
->(rt: &R, words: &[String], links: &mut Watched<L>, errors: &E) -> ExitCode
-    requires unused { UnusedLinker links.old.links }
+fn run_over<R: Threads + Wait + Sync + Alloc<A = Global> + Input + Print, L: Linker, E: Print>(
+    rt: &R,
+    words: &[String],
+    links: &mut L,
+    errors: &E,
+) -> ExitCode
+    requires unused { UnusedLinker (L.state links.old) }
     ensures { Ends L.goes_by_shape L.O.state L.I.state L.tells_in (map string_bytes words.now) (exit_status result) }
 {
     let edge = StdEdge::new(rt.reader());
@@ -133,14 +132,14 @@ fn run_over<
 }
 
 /// The same where the words ask for nothing that may wait: it has no right to wait, so it ends.
-fn alone_over<R: Alloc<A = Global> + Input + Print, L: Linker + Drop, E: Print>(
+fn alone_over<R: Alloc<A = Global> + Input + Print, L: Linker, E: Print>(
     rt: &R,
     words: &[String],
-    links: &mut Watched<L>,
+    links: &mut L,
     errors: &E,
 ) -> ExitCode
     requires alone { may_wait (map string_bytes words.now) ≡ false }
-    requires unused { UnusedLinker links.old.links }
+    requires unused { UnusedLinker (L.state links.old) }
     ensures { EndsAlone L.goes_by_shape L.O.state L.I.state L.tells_in (map string_bytes words.now) (exit_status result) }
 {
     let edge = StdEdge::new(rt.reader());

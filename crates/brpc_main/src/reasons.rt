@@ -3,12 +3,10 @@ ghost use Rattle.frame_print.specs.TextWrittenToSink.{Writes};
 ghost use Rattle.brpc_eng.specs.ProgramAnswers.{Wrote, sink_over};
 ghost use Rattle.script_reasons.specs.KeptSource.{kept_of};
 ghost use Rattle.script_reasons.specs.ScriptFaultWords.{unknown_text};
-ghost use Rattle.link_reasons.specs.LinkFaultWords.{links_text};
 ghost use Rattle.brpc_main.specs.EarlyEndReasons.{Explained, frame_text, kept_text, other_text, status_text};
 
 use crate::arguments::is_serve;
 use brpc_reasons::tell_words;
-use link_reasons::{Missed, tell_links};
 use script_reasons::{Kept, tell_script, tell_unknown};
 use sock_io::{Failed, Sink, Source, write_all};
 use std::alloc::Global;
@@ -22,6 +20,7 @@ fn reason(status: u8) -> &'static [u8]
         5 => b"brpc: the output failed\n",
         6 => b"brpc: the input is longer than the command takes\n",
         7 => b"brpc: memory ran out\n",
+        8 => b"brpc: a link could not be opened, or a connection failed\n",
         _ => b"",
     }
 }
@@ -67,7 +66,7 @@ fn tell_other<E: Sink>(errors: &mut E, words: &[String], status: u8) -> Result<(
     }
 }
 
-/// Says why the program ends with a status that neither the script nor the links explain.
+/// Says why the program ends with a status that the script doesn't explain.
 fn explain_other<E: Sink>(errors: &mut E, words: &[String], status: u8)
     ensures { Wrote (sink_over (E.state errors.old) (E.state errors.new)) (other_text (map string_bytes words.now) status) }
 {
@@ -98,35 +97,18 @@ fn explain_script<S: Source + Drop, E: Sink>(alloc: Global, errors: &mut E, sour
     }
 }
 
-/// Says which link or connection failed, by the script that this source kept.
-fn explain_links<S: Source + Drop, E: Sink>(
-    errors: &mut E,
-    source: &Kept<S>,
-    missed: Option<Missed>,
-)
-    ensures { Wrote (sink_over (E.state errors.old) (E.state errors.new)) (links_text (kept_of source.now) missed) }
-{
-    match tell_links(errors, missed, source.bytes()) {
-        Ok(()) => {}
-        Err(Failed) => {}
-    }
-}
-
 /// Writes why the program ends with this status: whole, or a beginning of it where the count of faults rose.
 pub fn explain<S: Source + Drop, E: Sink>(
     alloc: Global,
     errors: &mut E,
     words: &[String],
     source: &Kept<S>,
-    missed: Option<Missed>,
     status: u8,
 )
-    ensures { Explained (sink_over (E.state errors.old) (E.state errors.new)) (map string_bytes words.now) (kept_of source.now) missed status }
+    ensures { Explained (sink_over (E.state errors.old) (E.state errors.new)) (map string_bytes words.now) (kept_of source.now) status }
 {
     if status == 3 {
         explain_script(alloc, errors, source);
-    } else if status == 8 {
-        explain_links(errors, source, missed);
     } else {
         explain_other(errors, words, status);
     }

@@ -9,7 +9,6 @@ ghost use Rattle.brpc_main.specs.EarlyEndReasons.{Explained, status_text};
 
 use crate::reasons::{explain, explain_status};
 use brpc_further::{further, further_alone};
-use link_reasons::{Missed, Watched};
 use script_reasons::Kept;
 use sock_io::{Gate, Linker, Sink, Source};
 use std::alloc::Global;
@@ -26,7 +25,7 @@ pub fn run_with<
     R: Threads + Wait + Sync,
     S: Source + Drop,
     K: Sink,
-    L: Linker + Drop,
+    L: Linker,
     G: Gate + Sync,
     E: Sink,
 >(
@@ -35,34 +34,34 @@ pub fn run_with<
     words: &[String],
     source: &mut Kept<S>,
     out: &mut K,
-    links: &mut Watched<L>,
+    links: &mut L,
     gate: &G,
     errors: &mut E,
 ) -> ExitCode
-    requires unused { UnusedLinker links.old.links }
-    ensures answers { FurtherAnswers (map string_bytes words.now) (source_over (S.state source.old.inner) (S.state source.new.inner)) (sink_over (K.state out.old) (K.state out.new)) (linker_over (TellClosed L.I.state) (TellOffers L.goes_by_shape L.O.state L.I.state) L.tells_in links.old.links links.new.links) (exit_status result) }
-    ensures explained { Explained (sink_over (E.state errors.old) (E.state errors.new)) (map string_bytes words.now) (kept_of source.new) links.new.missed (exit_status result) }
+    requires unused { UnusedLinker (L.state links.old) }
+    ensures answers { FurtherAnswers (map string_bytes words.now) (source_over (S.state source.old.inner) (S.state source.new.inner)) (sink_over (K.state out.old) (K.state out.new)) (linker_over (TellClosed L.I.state) (TellOffers L.goes_by_shape L.O.state L.I.state) L.tells_in (L.state links.old) (L.state links.new)) (exit_status result) }
+    ensures explained { Explained (sink_over (E.state errors.old) (E.state errors.new)) (map string_bytes words.now) (kept_of source.new) (exit_status result) }
 {
     let status = further(rt, alloc, words, source, out, links, gate);
-    ended(alloc, status, words, source, links.missed(), errors)
+    ended(alloc, status, words, source, errors)
 }
 
 /// The same where the words ask for nothing that may wait. It has no right to wait, so it ends.
-pub fn run_alone<S: Source + Drop, K: Sink, L: Linker + Drop, E: Sink>(
+pub fn run_alone<S: Source + Drop, K: Sink, L: Linker, E: Sink>(
     alloc: Global,
     words: &[String],
     source: &mut Kept<S>,
     out: &mut K,
-    links: &mut Watched<L>,
+    links: &mut L,
     errors: &mut E,
 ) -> ExitCode
     requires alone { may_wait (map string_bytes words.now) ≡ false }
-    requires unused { UnusedLinker links.old.links }
-    ensures answers { FurtherAnswersAlone (map string_bytes words.now) (source_over (S.state source.old.inner) (S.state source.new.inner)) (sink_over (K.state out.old) (K.state out.new)) (linker_over (TellClosed L.I.state) (TellOffers L.goes_by_shape L.O.state L.I.state) L.tells_in links.old.links links.new.links) (exit_status result) }
-    ensures explained { Explained (sink_over (E.state errors.old) (E.state errors.new)) (map string_bytes words.now) (kept_of source.new) links.new.missed (exit_status result) }
+    requires unused { UnusedLinker (L.state links.old) }
+    ensures answers { FurtherAnswersAlone (map string_bytes words.now) (source_over (S.state source.old.inner) (S.state source.new.inner)) (sink_over (K.state out.old) (K.state out.new)) (linker_over (TellClosed L.I.state) (TellOffers L.goes_by_shape L.O.state L.I.state) L.tells_in (L.state links.old) (L.state links.new)) (exit_status result) }
+    ensures explained { Explained (sink_over (E.state errors.old) (E.state errors.new)) (map string_bytes words.now) (kept_of source.new) (exit_status result) }
 {
     let status = further_alone(alloc, words, source, out, links);
-    ended(alloc, status, words, source, links.missed(), errors)
+    ended(alloc, status, words, source, errors)
 }
 
 /// Says why the program ends with this number, and ends with it.
@@ -71,13 +70,12 @@ fn ended<S: Source + Drop, E: Sink>(
     status: u8,
     words: &[String],
     source: &Kept<S>,
-    missed: Option<Missed>,
     errors: &mut E,
 ) -> ExitCode
     ensures code { exit_status result ≡ status }
-    ensures explained { Explained (sink_over (E.state errors.old) (E.state errors.new)) (map string_bytes words.now) (kept_of source.now) missed (exit_status result) }
+    ensures explained { Explained (sink_over (E.state errors.old) (E.state errors.new)) (map string_bytes words.now) (kept_of source.now) (exit_status result) }
 {
-    explain(alloc, errors, words, source, missed, status);
+    explain(alloc, errors, words, source, status);
     ExitCode::from(status)
 }
 

@@ -5,8 +5,8 @@ pub returns : goal.returns
 returns g c = record {
   input = _;
   out = _;
-  unused = c.args.links.now.links;
-  left = c.run_with.new.links.links;
+  unused = g.L.Linker.state c.args.links.now;
+  left = g.L.Linker.state c.run_with.new.links;
   source_sound = ap (λ e. e.faults) (c.new-source.ensures.inner ∙ c.new-edge.ensures);
   sink_sound = ap (λ e. e.faults) c.new-out.ensures;
   is_unused = c.requires.unused;

@@ -1,2 +1,0 @@
-pub mod LinkFaultWords
-pub mod WatchedLinks
