@@ -1,8 +1,8 @@
-ghost use Rattle.std.specs.Prelude.{◌≡◌, ◌⊎◌, ◌<◌, ◌^◌, IfSome, length, map, option_map, string_bytes};
+ghost use Rattle.std.specs.Prelude.{◌≡◌, ◌⊎◌, ◌<◌, ◌^◌, length, map, string_bytes};
 ghost use Rattle.frame_print.specs.TextWrittenToSink.{Writes};
 ghost use Rattle.brpc_eng.specs.ProgramAnswers.{Wrote, sink_over};
 ghost use Rattle.script_reasons.specs.KeptSource.{kept_of};
-ghost use Rattle.script_reasons.specs.ScriptFaultWords.{unknown_text};
+ghost use Rattle.script_reasons.specs.ScriptFaultWords.{script_text, unknown_text};
 ghost use Rattle.brpc_main.specs.EarlyEndReasons.{Explained, frame_text, kept_text, other_text, status_text};
 
 use crate::arguments::is_serve;
@@ -76,14 +76,24 @@ fn explain_other<E: Sink>(errors: &mut E, words: &[String], status: u8)
     }
 }
 
-/// Writes what is wrong with the script of which this was kept.
-fn tell_kept<E: Sink>(alloc: Global, errors: &mut E, kept: Option<&[u8]>) -> Result<(), Failed>
-    requires { IfSome kept (λ bytes. length bytes.now < 2 ^ 32) }
-    ensures { Writes (E.state errors.old) (E.state errors.new) (kept_text (option_map (λ bytes. bytes.now) kept)) result ⊎ Writes (E.state errors.old) (E.state errors.new) unknown_text result }
+/// Says what is wrong with this script.
+fn explain_bytes<E: Sink>(alloc: Global, errors: &mut E, bytes: &[u8])
+    requires { length bytes.now < 2 ^ 32 }
+    ensures { Wrote (sink_over (E.state errors.old) (E.state errors.new)) (script_text bytes.now) ⊎ Wrote (sink_over (E.state errors.old) (E.state errors.new)) unknown_text }
 {
-    match kept {
-        Some(bytes) => tell_script(alloc, errors, bytes),
-        None => tell_unknown(errors),
+    match tell_script(alloc, errors, bytes) {
+        Ok(()) => {}
+        Err(Failed) => {}
+    }
+}
+
+/// Says that a script is faulty of which nothing was kept.
+fn explain_unknown<E: Sink>(errors: &mut E)
+    ensures { Wrote (sink_over (E.state errors.old) (E.state errors.new)) unknown_text }
+{
+    match tell_unknown(errors) {
+        Ok(()) => {}
+        Err(Failed) => {}
     }
 }
 
@@ -91,9 +101,9 @@ fn tell_kept<E: Sink>(alloc: Global, errors: &mut E, kept: Option<&[u8]>) -> Res
 fn explain_script<S: Source + Drop, E: Sink>(alloc: Global, errors: &mut E, source: &Kept<S>)
     ensures { Wrote (sink_over (E.state errors.old) (E.state errors.new)) (kept_text (kept_of source.now)) ⊎ Wrote (sink_over (E.state errors.old) (E.state errors.new)) unknown_text }
 {
-    match tell_kept(alloc, errors, source.bytes()) {
-        Ok(()) => {}
-        Err(Failed) => {}
+    match source.bytes() {
+        Some(bytes) => explain_bytes(alloc, errors, bytes),
+        None => explain_unknown(errors),
     }
 }
 
