@@ -1,0 +1,2 @@
+mod LinesOfSubmitter
+mod AllSubmitters
