@@ -1,12 +1,13 @@
 -- A script whose lines were done, and how its queue ended.
-use Rattle.std.specs.Prelude.{ℕ, ◌≡◌, ◌+◌, ◌≤◌, ◌%◌, ◌/◌, false, List, length, map, slice_get, Some}
+use Rattle.std.specs.Prelude.{ℕ, ◌≡◌, ◌+◌, ◌≤◌, ◌%◌, ◌/◌, false, List, length, map, filter_map, take, slice_get, Some}
 use Rattle.sock_io.specs.declared.link.Out.{Ghosts}
 use Rattle.exec_queue.specs.declared.queue.TaskQueue.{TaskQueue}
 use Rattle.exec_queue.specs.declared.queue.TaskSubmitter.{TaskSubmitter}
 use Rattle.exec_script.specs.declared.op.Op.{Op}
 use Rattle.exec_script.specs.declared.told.Answer.{Answer}
-use Rattle.exec_script.specs.Accounting.{book_of}
+use Rattle.exec_script.specs.Accounting.{book_after, run_at}
 use Rattle.exec_script.specs.QueueEnds.{AreAnswered, IsOrder, IsStoppedOnce}
+use Rattle.exec_threads.specs.TasksOfLines.{most_lines}
 use Rattle.exec_threads.specs.declared.worker.Worker.{Worker}
 use Rattle.exec_threads.specs.declared.run.Done.{Done}
 use Rattle.exec_threads.specs.declared.run.Worked.{Worked}
@@ -38,10 +39,10 @@ pub record IsWorked {O : Type 0} {g : Ghosts O} (q : TaskQueue O g) (script : Li
   pub submitters : d.submitters.items ≡ map (λ (w : Worker O g). w.by) workers
   pub dealt : AreDealt workers (length script) d.answers.items
 
--- each line was answered, the order and the lines that ran are those of the accepted ones, one line at most stopped the queue, and the accounts are those behind what ran
+-- each line was answered, the order and the lines that ran are those of the accepted ones, one line at most stopped the queue, and the accounts, which have room for the longest script, are those behind what ran
 pub record IsDone (submitters : ℕ) (script : List Op) (d : Done) : Type 0 where
   pub answered : AreAnswered script d.answers.items
   pub ordered : IsOrder submitters d.answers.items d.order.items
   pub few : d.ran ≤ length d.order.items
   pub stopped : IsStoppedOnce submitters d.answers.items d.order.items d.ran
-  pub accounts : d.accounts ≡ book_of script d.order.items d.ran
+  pub accounts : d.accounts ≡ book_after most_lines (filter_map (run_at script) (take d.ran d.order.items))

@@ -10,10 +10,14 @@ use Rattle.exec_script.specs.declared.told.Answer.TheVariants.{Accepted, Refused
 use Rattle.exec_script.specs.Scripts.{IsOp, change_of}
 use Rattle.exec_script.specs.Accounting.{Run}
 
+-- as many lines as a script may have
+abbrev pub most_lines : ℕ
+most_lines = 4096
+
 -- a script as it was read
 pub record IsScript (script : List Op) : Type 0 where
   pub accounts : All IsOp script
-  pub room : length script ≤ 4096
+  pub room : length script ≤ most_lines
 
 -- the task that makes a change, for the line of this number
 abbrev pub task_on : ℕ → Change → queue.Task
@@ -24,11 +28,6 @@ task_on line (Move a b n) = record { kind = 3; a = a; b = b; line = line; amount
 -- what a task is for the accounts
 abbrev pub run_of_task : queue.Task → Run
 run_of_task t = record { line = t.line; change = change_of (record { kind = t.kind; a = t.a; b = t.b; amount = t.amount }) }
-
--- accounts of so many lines, behind these tasks
-pub record BankState : Type 0 where
-  pub lines : ℕ
-  pub ran : List queue.Task
 
 -- the task that was accepted of the line at a place of a script, which counts from 0, where it asks for this and was answered so
 abbrev pub accepted_at : ℕ → Option Op → Answer → List queue.Task

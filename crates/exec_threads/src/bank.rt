@@ -1,7 +1,7 @@
 // The accounts of a queue, which run its tasks.
-ghost use Rattle.std.specs.Prelude.{◌≡◌, [], length, map, IfOk};
+ghost use Rattle.std.specs.Prelude.{◌≡◌, [], map, IfOk};
 ghost use Rattle.exec_script.specs.Accounting.{book_after};
-ghost use Rattle.exec_threads.specs.TasksOfLines.{run_of_task};
+ghost use Rattle.exec_threads.specs.TasksOfLines.{most_lines, run_of_task};
 
 use exec_queue::{Runner, Task};
 use exec_script::{Accounts, Change, ChangeParts};
@@ -9,49 +9,52 @@ use ghosts::Ghosts;
 use std::alloc::{AllocError, Global};
 use std::marker::Model;
 
-/// The accounts of a script of so many lines. Contracts see the tasks that ran on them.
+/// As many lines as a script may have.
+const MOST_LINES: usize = 4096;
+
+/// The accounts of a script, with room for what is told of the longest. Contracts see the tasks that ran on them.
 #[derive(Drop)]
 pub struct Bank {
     accounts: Accounts,
-    lines: usize,
     ran: Ghosts<Task>,
 }
 
 impl Model for Bank {
     ghost use Rattle.std.specs.Prelude.{◌≡◌, map};
     ghost use Rattle.exec_script.specs.Accounting.{book_after};
-    ghost use Rattle.exec_threads.specs.TasksOfLines.{BankState, run_of_task};
+    ghost use Rattle.std.specs.Prelude.{List};
+    ghost use Rattle.exec_queue.specs.declared.task.Task as model;
+    ghost use Rattle.exec_threads.specs.TasksOfLines.{most_lines, run_of_task};
 
-    ghost Value = { BankState };
+    ghost Value = { List model.Task };
 
-    ghost view = { λ b. record { lines = b.lines; ran = b.ran.list } };
+    ghost view = { λ b. b.ran.list };
 
-    ghost invariant = { λ b. b.accounts ≡ book_after b.lines (map run_of_task b.ran.list) };
+    ghost invariant = { λ b. b.accounts ≡ book_after most_lines (map run_of_task b.ran.list) };
 }
 
 impl Bank {
     /// Before the first task.
-    pub fn new(alloc: Global, lines: usize) -> Result<Bank, AllocError>
-        ensures { IfOk result (λ bank. bank ≡ record { lines = lines; ran = [] }) }
+    pub fn new(alloc: Global) -> Result<Bank, AllocError>
+        ensures { IfOk result (λ bank. bank ≡ []) }
     {
-        let accounts = Accounts::new(alloc, lines)?;
+        let accounts = Accounts::new(alloc, MOST_LINES)?;
         Ok(Bank {
             accounts,
-            lines,
             ran: Ghosts::of(&0u8),
         })
     }
 
     /// The accounts behind these tasks.
     pub fn accounts(self) -> Accounts
-        ensures { result ≡ book_after self.lines (map run_of_task self.ran) }
+        ensures { result ≡ book_after most_lines (map run_of_task self) }
     {
         self.accounts
     }
 }
 
 impl Runner for Bank {
-    ghost ran = { λ b. b.ran };
+    ghost ran = { λ b. b };
 
     fn run(&mut self, task: &Task) {
         let change = Change::of(ChangeParts {

@@ -225,7 +225,7 @@ pub fn run_script<R: Threads + Wait + Sync>(
     ensures { IfOk result (IsDone submitters script.now) }
 {
     let ops = script.ops();
-    let bank = Bank::new(alloc, ops.len())?;
+    let bank = Bank::new(alloc)?;
     let Ok(
         ExecParts {
             queue,
