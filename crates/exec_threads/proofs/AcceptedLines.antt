@@ -3,6 +3,7 @@ use Rattle.std.proofs.Common.{◌≡◌, ◌≢◌, ℕ, zero, suc, ◌+◌, ◌
 use Rattle.std.specs.Prelude.{slice_get}
 use Rattle.std.proofs.Math.Nat.{mul-suc, mul_comm}
 use Rattle.std.proofs.lemmas.Nat.{same_from_place}
+use Rattle.std.proofs.lemmas.Option.{slice_get_within}
 use mathlib.Core.Option.{some, some-injective, some-ne-none}
 use lib.ListN.{get_elem?}
 use Rattle.exec_queue.specs.declared.task.Task as queue
@@ -71,7 +72,7 @@ module _ (step : ℕ) (script : List Op) where
     pub task : t ≡ task_on (place + step * n + 1) change
 
   -- the first task is that of this line, or there is none of it
-  FirstOr : ℕ → Option Op → Answer → List queue.Task → ℕ → queue.Task → Type 0
+  abbrev FirstOr : ℕ → Option Op → Answer → List queue.Task → ℕ → queue.Task → Type 0
   FirstOr place o a rest m t = ((change : Change) × (o ≡ Some (Task change)) × (a ≡ Accepted) × (t ≡ task_on (place + 1) change) × (m ≡ 0)) ⊎ ((r : ℕ) × (get_elem? rest r ≡ some t) × (m ≡ length (accepted_at place o a) + r))
 
   first_or : (place : ℕ) (o : Option Op) (a : Answer) (rest : List queue.Task) (m : ℕ) (t : queue.Task) → get_elem? (accepted_at place o a ++ rest) m ≡ some t → FirstOr place o a rest m t
@@ -130,13 +131,10 @@ module _ (step : ℕ) (script : List Op) where
   -- the tasks stand in the order of their lines
   pub lines_rise : 1 ≤ step → (place : ℕ) (as : List Answer) (i j : ℕ) (t u : queue.Task) → get_elem? (accepted_from step script place as) i ≡ some t → get_elem? (accepted_from step script place as) j ≡ some u → i < j → t.line < u.line
   lines_rise some_ place [] i j t u e f less = absurd (some-ne-none t (sym e))
-  lines_rise some_ place (a ∷ as) i j t u e f less = by_cases (first_or place (slice_get script place) a rest i t e) (first_or place (slice_get script place) a rest j u f)
+  lines_rise some_ place (a ∷ as) i j t u e f less = by_cases (first_or place (slice_get script place) a (accepted_from step script (place + step) as) i t e) (first_or place (slice_get script place) a (accepted_from step script (place + step) as) j u f)
     where
-      rest : List queue.Task
-      rest = accepted_from step script (place + step) as
-
-      by_cases : FirstOr place (slice_get script place) a rest i t → FirstOr place (slice_get script place) a rest j u → t.line < u.line
-      by_cases _ (inl g) = absurd (let h = g.4 in omega (arith, h, less))
+      by_cases : FirstOr place (slice_get script place) a (accepted_from step script (place + step) as) i t → FirstOr place (slice_get script place) a (accepted_from step script (place + step) as) j u → t.line < u.line
+      by_cases d (inl g) = absurd (let h = g.4 in omega (arith, h, less))
       by_cases (inl d) (inr g) =
           let w = accepted_is (place + step) as g.0 u g.1 in
           let l = line_of_accepted (place + step) as u w in
@@ -198,14 +196,9 @@ module _ (step : ℕ) (script : List Op) where
           let v = accepted_is step script ((place + 1) + f.0) o.0 f.1 u (ap (λ (ts : List queue.Task). get_elem? ts f.1) o.2 ∙ f.4) in
           let l = line_of_accepted step script place as t w in
           let m = line_of_accepted step script ((place + 1) + f.0) o.0 u v in
-          let low_ : f.0 < length more = within more f.0 o.0 o.1 in
+          let low_ = slice_get_within more f.0 o.0 o.1 in
           let p = same_from_place v.n ((place + 1) + f.0) w.n place step (omega (arith, low, low_)) (omega (arith, low)) (let a = mul_turned v.n in let b = mul_turned w.n in omega (arith, l, m, same, a, b)) in
           let q = p.1 in omega (arith, q)
         where
-          within : (xs : List (List Answer)) (k : ℕ) (x : List Answer) → slice_get xs k ≡ Some x → k < length xs
-          within [] k x e = absurd cc
-          within (y ∷ ys) zero x e = omega arith
-          within (y ∷ ys) (suc k) x e = (let h = within ys k x e in omega (arith, h))
-
           mul_turned : (n : ℕ) → step * n ≡ n * step
           mul_turned n = mul_comm step n

@@ -1,11 +1,10 @@
 -- How the queue of a script ended whose submitters did all of its lines.
-use Rattle.std.proofs.Common.{◌≡◌, ℕ, zero, suc, ◌+◌, ◌-◌, ◌*◌, ◌/◌, ◌%◌, ◌<◌, ◌≤◌, ◌⊎◌, inl, inr, true, false, Option, Some, None, List, [], ◌∷◌, take, length, map, refl, sym, ap, ◌∙◌, subst, arith}
-use Rattle.std.specs.Prelude.{slice_get, slice_index_or, filter_map}
+use Rattle.std.proofs.Common.{◌≡◌, ℕ, zero, suc, ◌+◌, ◌-◌, ◌*◌, ◌/◌, ◌%◌, ◌<◌, ◌≤◌, ◌⊎◌, inl, inr, Bool, true, false, lt-ltb, Option, Some, None, List, [], ◌∷◌, take, length, map, refl, sym, ap, ◌∙◌, subst, arith}
+use Rattle.std.specs.Prelude.{slice_get, filter_map, option_and_then, if◌then◌else◌}
 use Rattle.std.proofs.lemmas.List.{length-map}
-use Rattle.std.proofs.lemmas.Option.{slice_get-get_or, slice_get_within}
 use mathlib.Core.Logic.{dite}
 use mathlib.Core.Option.{some}
-use native.Mathlib.Decide.{ℕ_discrete}
+use native.Mathlib.Decide.{dec_lt}
 use lib.ListN.{get_elem?}
 use Rattle.sock_io.specs.declared.link.Out.{Ghosts}
 use Rattle.exec_queue.specs.declared.task.Task as queue
@@ -37,14 +36,10 @@ run_again line (Sub a n) = refl
 run_again line (Move a b n) = refl
 
 run_there : (script : List Op) (place : ℕ) (change : Change) → slice_get script place ≡ Some (Task change) → run_at script (place + 1) ≡ Some (record { line = place + 1; change = change })
-run_there script place change asked = run_back (place + 1) (omega arith) (ap (slice_get script) (let h : (place + 1) - 1 ≡ place = omega arith in h) ∙ asked)
-  where
-    run_back : (line : ℕ) → 1 ≤ line → slice_get script (line - 1) ≡ Some (Task change) → run_at script line ≡ Some (record { line = line; change = change })
-    run_back zero some_ e = absurd (omega (arith, some_))
-    run_back (suc n) some_ e = rw e refl
-
-IsRunOf : List Op → queue.Task → Type 0
-IsRunOf script t = run_at script t.line ≡ Some (run_of_task t)
+run_there script place change asked =
+    let here : slice_get script ((place + 1) - 1) ≡ Some (Task change) = ap (slice_get script) (let h : (place + 1) - 1 ≡ place = omega arith in h) ∙ asked in
+    ap (λ (b : Bool). if b then option_and_then (run_of (place + 1)) (slice_get script ((place + 1) - 1)) else None) (lt-ltb 0 (place + 1) (omega arith))
+    ∙ ap (λ (o : Option Op). option_and_then (run_of (place + 1)) o) here
 
 pub runs_are : (script : List Op) (n : ℕ) (ts : List queue.Task) → ((q : ℕ) (t : queue.Task) → get_elem? ts q ≡ some t → run_at script t.line ≡ Some (run_of_task t)) → filter_map (run_at script) (take n (map (λ (t : queue.Task). t.line) ts)) ≡ map run_of_task (take n ts)
 runs_are script zero ts each = refl
@@ -61,19 +56,13 @@ is_run script t place change asked is =
 -- ## The submitters
 
 module _ {O : Type 0} {g : Ghosts O} where
-  answers_by : Worker O g → List Answer
-  answers_by w = w.answers.items
-
   -- what the lines of each were answered
-  pub own_of : List (Worker O g) → List (List Answer)
-  own_of ws = map answers_by ws
-
-  seat_of : Worker O g → TaskSubmitter O g
-  seat_of w = w.by
+  abbrev pub own_of : List (Worker O g) → List (List Answer)
+  own_of ws = map (λ (w : Worker O g). w.answers.items) ws
 
   own_there : (ws : List (Worker O g)) (k : ℕ) (as : List Answer) → slice_get (own_of ws) k ≡ Some as → (w : Worker O g) × (slice_get ws k ≡ Some w) × (w.answers.items ≡ as)
   own_there [] k as e = absurd cc
-  own_there (w ∷ ws) zero as e = (w, refl, (let h : answers_by w ≡ as = cc in h))
+  own_there (w ∷ ws) zero as e = (w, refl, (let h : w.answers.items ≡ as = cc in h))
   own_there (w ∷ ws) (suc k) as e = own_there ws k as e
 
   seat_there : (ws : List (Worker O g)) (k : ℕ) (w : Worker O g) → slice_get ws k ≡ Some w → get_elem? (map (λ (w : Worker O g). w.by) ws) k ≡ some w.by
@@ -99,7 +88,7 @@ module _ {O : Type 0} {g : Ghosts O} (q : TaskQueue O g) (script : List Op) (ste
   are_submitters = submitters_are q script step 0 ws (λ k w at. subst (λ (n : ℕ). HasWorked q script step n w) (let e : k + 1 ≡ 0 + k + 1 = omega arith in e) (have k w at))
 
   own_long : length (own_of ws) ≡ step
-  own_long = length-map ws answers_by ∙ count
+  own_long = length-map ws (λ (w : Worker O g). w.answers.items) ∙ count
 
   pub no_line_twice : NoLineTwice (accepted_of step script 0 (own_of ws))
   no_line_twice = none_twice step script some_ 0 (own_of ws) (let e = own_long in omega (arith, e))
@@ -154,9 +143,9 @@ module _ {O : Type 0} {g : Ghosts O} (q : TaskQueue O g) (script : List Op) (ste
       pub is_stopped_once : IsStoppedOnce step answers order n
       is_stopped_once = record {
         once = stopped_once script step (own_of ws) answers round at_most;
-        dropped = λ less. dite (ℕ_discrete (stopped_of (own_of ws)) 0)
-          (λ none. absurd (let w = r.whole (stops ∙ none) in let e = order_long in omega (arith, less, w, e)))
-          (λ any. is_stopped (omega (arith, any)));
+        dropped = λ less. dite (dec_lt 0 (stopped_of (own_of ws)))
+          (λ any. is_stopped (omega (arith, any)))
+          (λ none. absurd (let w = r.whole (let s = stops in omega (arith, none, s)) in let e = order_long in omega (arith, less, w, e)));
         refused = of_late Refused tt;
         already = of_late Already tt;
         behind = behind_stop script step (own_of ws) answers round;

@@ -7,7 +7,7 @@ use Rattle.std.proofs.lemmas.List.{length-map}
 use Rattle.std.proofs.lemmas.Option.{slice_get-get_or, slice_get_within}
 use mathlib.Core.Logic.{dite}
 use mathlib.Core.Option.{some, some-injective, some-ne-none}
-use native.Mathlib.Decide.{ℕ_discrete}
+use native.Mathlib.Decide.{ℕ_discrete, dec_lt}
 use lib.ListN.{get_elem?}
 use Rattle.chain_orders.specs.ListsInOneOrder.{part_of, AreMerged}
 use Rattle.chain_orders.proofs.MergedLists.{map_there, map_back, part_here, part_other}
@@ -56,9 +56,9 @@ before_rises a (b ∷ bs) (suc q) (suc r) f less = (let rises = before_rises a b
 -- ## Stops
 
 stopped_more : (a : Answer) (as : List Answer) → stopped_in (a ∷ as) ≡ stopped_in (a ∷ []) + stopped_in as
-stopped_more Accepted as = refl
-stopped_more Refused as = refl
-stopped_more Already as = refl
+stopped_more Accepted as = omega arith
+stopped_more Refused as = omega arith
+stopped_more Already as = omega arith
 stopped_more Stopped as = omega arith
 
 stopped_here : (a : Answer) → a ≡ Stopped → stopped_in (a ∷ []) ≡ 1
@@ -103,15 +103,15 @@ one_line_stopped (cs ∷ more) (suc k) n (suc l) m as bs few e f g h = let w = o
 
 some_line_stopped : (own : List (List Answer)) → 1 ≤ stopped_of own → (k n : ℕ) × (as : List Answer) × (slice_get own k ≡ Some as) × (slice_get as n ≡ Some Stopped)
 some_line_stopped [] some_ = absurd (omega (arith, some_))
-some_line_stopped (as ∷ more) some_ = dite (ℕ_discrete (stopped_in as) 0)
-    (λ none. let w = some_line_stopped more (omega (arith, some_, none)) in (suc w.0, w.1, w.2, w.3, w.4))
+some_line_stopped (as ∷ more) some_ = dite (dec_lt 0 (stopped_in as))
     (λ any. let w = some_stopped as (omega (arith, any)) in (0, w.0, as, refl, w.1))
+    (λ none. let w = some_line_stopped more (omega (arith, some_, none)) in (suc w.0, w.1, w.2, w.3, w.4))
 
 -- ## Lines that go round
 
 -- what each submitter's lines were answered, and what each line of the script was
 pub record IsRound (script : List Op) (step : ℕ) (own : List (List Answer)) (answers : List Answer) : Type 0 where
-  pub some : 1 ≤ step
+  pub steps : 1 ≤ step
   pub count : length own ≡ step
   pub inside : (k n : ℕ) (as : List Answer) → slice_get own k ≡ Some as → n < length as → k + step * n < length script
   pub fit : (k n : ℕ) (as : List Answer) (op : Op) (a : Answer) → slice_get own k ≡ Some as → slice_get script (k + step * n) ≡ Some op → slice_get as n ≡ Some a → Answers op a
@@ -122,16 +122,16 @@ pub record IsRound (script : List Op) (step : ℕ) (own : List (List Answer)) (a
 module _ (script : List Op) (step : ℕ) (own : List (List Answer)) (answers : List Answer) (round : IsRound script step own answers) where
   -- the line of a place, as one of its submitter's own
   record OwnLine (place : ℕ) (a : Answer) : Type 0 where
-    list : List Answer
-    own_at : slice_get own (place % step) ≡ Some list
-    answer : slice_get list (place / step) ≡ Some a
+    pub list : List Answer
+    pub own_at : slice_get own (place % step) ≡ Some list
+    pub answer : slice_get list (place / step) ≡ Some a
 
   parts : (place : ℕ) → place % step + step * (place / step) ≡ place
   parts place = (let e = div-add-mod place step in omega (arith, e))
 
   own_line : (place : ℕ) (a : Answer) → slice_get answers place ≡ Some a → OwnLine place a
   own_line place a at =
-      let there = slice_get-get_or own (place % step) [] (let m = mod-lt place round.some in let c = round.count in omega (arith, m, c)) in
+      let there = slice_get-get_or own (place % step) [] (let m = mod-lt place (let s = round.steps in omega (arith, s)) in let c = round.count in omega (arith, m, c)) in
       record { list = slice_index_or own (place % step) []; own_at = there; answer = round.dealt place a _ at there }
 
   -- a submitter's own line, as one of the script
@@ -196,7 +196,7 @@ module _ (script : List Op) (step : ℕ) (own : List (List Answer)) (answers : L
           let d = parts (stop - 1) in
           let rows = mul-le-mul_left step (let h : suc ((stop - 1) / step) ≤ (line - 1) / step = omega (arith, first) in h) in
           let m = mul-suc step ((stop - 1) / step) in
-          let some_ = round.some in
+          let some_ = round.steps in
           (let e = at.0 in let f = halted.0 in omega (arith, c, d, rows, m, some_, same, e, f))
 
       by_cases : IsAnswered answers line Refused ⊎ IsAnswered answers line Already → stop < line
@@ -208,10 +208,10 @@ module _ (script : List Op) (step : ℕ) (own : List (List Answer)) (answers : L
   module _ (tasks : List queue.Task) (merged : AreMerged (accepted_of step script 0 own) tasks) where
     -- a task of the order, as that of a submitter's line
     record OwnTask (q : ℕ) (t : queue.Task) : Type 0 where
-      inlist : InList (accepted_of step script 0 own) tasks merged q t
-      list : List Answer
-      own_at : slice_get own inlist.c ≡ Some list
-      there : get_elem? (accepted_from step script inlist.c list) (before inlist.c merged.by q) ≡ some t
+      pub inlist : InList (accepted_of step script 0 own) tasks merged q t
+      pub list : List Answer
+      pub own_at : slice_get own inlist.c ≡ Some list
+      pub there : get_elem? (accepted_from step script inlist.c list) (before inlist.c merged.by q) ≡ some t
 
     own_task : (q : ℕ) (t : queue.Task) → get_elem? tasks q ≡ some t → OwnTask q t
     own_task q t at =
@@ -264,7 +264,7 @@ module _ (script : List Op) (step : ℕ) (own : List (List Answer)) (answers : L
           let one : o.inlist.c ≡ p.inlist.c = sym (submitter_of_task q t.0 o) ∙ (ap (submitter_of step) t.2 ∙ (same ∙ (ap (submitter_of step) (sym u.2) ∙ submitter_of_task r u.0 p))) in
           let lists : o.list ≡ p.list = (let e : Some o.list ≡ Some p.list = sym o.own_at ∙ (ap (slice_get own) one ∙ p.own_at) in cc) in
           let there : get_elem? (accepted_from step script o.inlist.c o.list) (before o.inlist.c merged.by r) ≡ some u.0 = ap (λ (c : ℕ). get_elem? (accepted_from step script c o.list) (before c merged.by r)) one ∙ (ap (λ (as : List Answer). get_elem? (accepted_from step script p.inlist.c as) (before p.inlist.c merged.by r)) lists ∙ p.there) in
-          let rise = lines_rise step script round.some o.inlist.c o.list (before o.inlist.c merged.by q) (before o.inlist.c merged.by r) t.0 u.0 o.there there (before_rises o.inlist.c merged.by q r o.inlist.by_c less) in
+          let rise = lines_rise step script round.steps o.inlist.c o.list (before o.inlist.c merged.by q) (before o.inlist.c merged.by r) t.0 u.0 o.there there (before_rises o.inlist.c merged.by q r o.inlist.by_c less) in
           (let e = t.2 in let f = u.2 in omega (arith, rise, e, f))
 
       pub is_order : IsOrder step answers order

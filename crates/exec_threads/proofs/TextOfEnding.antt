@@ -23,8 +23,10 @@ take_set (suc n) zero x (y ∷ xs) = refl
 take_set (suc n) (suc i) x (y ∷ xs) = ap (λ l. y ∷ l) (take_set n i x xs)
 
 take_told : (n : ℕ) (told : List (Option Told)) (line : ℕ) (is : Told) → told_at (take n told) line is ≡ take n (told_at told line is)
-take_told n told zero is = refl
-take_told n told (suc line) is = take_set n line (Some is) told
+take_told n told line is = elim (nat_lt 0 line) as (λ b. (if b then slice_set (take n told) (line - 1) (Some is) else take n told) ≡ take n (if b then slice_set told (line - 1) (Some is) else told)) [
+  | true ↦ take_set n (line - 1) (Some is) told
+  | false ↦ refl
+]
 
 cut_behind : (n : ℕ) (all cut : Book) (run : Run) → IsCut n all cut → IsCut n (book_behind all run) (book_behind cut run)
 cut_behind n all cut run is = record {
