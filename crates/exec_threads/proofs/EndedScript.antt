@@ -18,12 +18,14 @@ use Rattle.exec_script.specs.declared.op.Change.{Change}
 use Rattle.exec_script.specs.declared.op.Change.TheVariants.{Add, Sub, Move}
 use Rattle.exec_script.specs.declared.told.Answer.{Answer}
 use Rattle.exec_script.specs.declared.told.Answer.TheVariants.{Accepted, Refused, Stopped, Already}
-use Rattle.exec_script.specs.Accounting.{Run, run_at, run_of}
+use Rattle.exec_script.specs.Accounting.{Run, run_at, run_of, book_after}
 use Rattle.exec_script.specs.QueueEnds.{IsAnswered, SomeStopped, AreAnswered, IsOrder, IsStoppedOnce}
 use Rattle.exec_threads.specs.declared.worker.Worker.{Worker}
-use Rattle.exec_threads.specs.TasksOfLines.{task_on, accepted_from, stopped_in, run_of_task, IsLate}
+use Rattle.exec_threads.specs.declared.run.Done.{Done}
+use Rattle.exec_threads.specs.declared.run.Worked.{Worked}
+use Rattle.exec_threads.specs.TasksOfLines.{most_lines, task_on, accepted_from, stopped_in, run_of_task, IsLate}
 use Rattle.exec_threads.specs.LinesDone.{own_place, IsAtWork, HasWorked}
-use Rattle.exec_threads.specs.ScriptDone.{HaveWorked, AreDealt}
+use Rattle.exec_threads.specs.ScriptDone.{HaveWorked, AreDealt, IsWorked, IsDone}
 use Rattle.exec_threads.proofs.AcceptedLines.{got, got_back, line_is, accepted_of, none_twice}
 use Rattle.exec_threads.proofs.LinesGoRound.{IsRound, stopped_of, late_is, one_stopped, stopped_once, behind_stop, all_answered, asked_at, is_order}
 
@@ -153,3 +155,29 @@ module _ {O : Type 0} {g : Ghosts O} (q : TaskQueue O g) (script : List Op) (ste
 
       pub runs : map run_of_task ran ≡ filter_map (run_at script) (take n order)
       runs = ap (map run_of_task) r.ran_is ∙ (sym (runs_are script n r.tasks (λ p t at. (let a = asked_at script step (own_of ws) answers round r.tasks r.ordered p t at in is_run script t a.0 a.1 a.2 a.3))) ∙ ap (λ (l : List ℕ). filter_map (run_at script) (take n l)) (sym r.lines))
+
+-- ## The ending
+
+module _ {O : Type 0} {g : Ghosts O} (q : TaskQueue O g) (script : List Op) (step : ℕ) (d : Worked O g) (some_ : 1 ≤ step) (w : IsWorked q script step d) where
+  pub tasks_are : AreSubmitters q (accepted_of step script 0 (own_of w.workers)) d.submitters.items
+  tasks_are = subst (λ (ss : List (TaskSubmitter O g)). AreSubmitters q (accepted_of step script 0 (own_of w.workers)) ss) (sym w.submitters) (are_submitters q script step w.workers some_ w.count w.have)
+
+  pub seats_are : length d.submitters.items ≡ step
+  seats_are = ap length w.submitters ∙ (length-map w.workers (λ (v : Worker O g). v.by) ∙ w.count)
+
+  pub is_done : (done : Done) (ran : List queue.Task) → ((tss : List (List queue.Task)) → AreSubmitters q tss d.submitters.items → NoLineTwice tss → Ran tss (stops_of d.submitters.items) done.order.items done.ran ran) → ((tss : List (List queue.Task)) → AreSubmitters q tss d.submitters.items → NoLineTwice tss → AnswersFit d.submitters.items done.order.items) →
+      done.answers ≡ d.answers → done.accounts ≡ book_after most_lines (map run_of_task ran) → IsDone step script done
+  is_done done ran runs_ fits answers_are accounts_are =
+      let tss = accepted_of step script 0 (own_of w.workers) in
+      let once = no_line_twice q script step w.workers some_ w.count w.have in
+      let by_workers = λ (ss : List (TaskSubmitter O g)). Ran tss (stops_of ss) done.order.items done.ran ran in
+      let r = subst by_workers w.submitters (runs_ tss tasks_are once) in
+      let f = subst (λ (ss : List (TaskSubmitter O g)). AnswersFit ss done.order.items) w.submitters (fits tss tasks_are once) in
+      let dealt = subst (λ (as : List Answer). AreDealt w.workers (length script) as) (sym (ap (λ v. v.items) answers_are)) w.dealt in
+      record {
+        answered = answered q script step w.workers some_ w.count w.have done.answers.items dealt;
+        ordered = ordered q script step w.workers some_ w.count w.have done.answers.items dealt done.order.items done.ran ran r f;
+        few = few q script step w.workers some_ w.count w.have done.answers.items dealt done.order.items done.ran ran r f;
+        stopped = is_stopped_once q script step w.workers some_ w.count w.have done.answers.items dealt done.order.items done.ran ran r f;
+        accounts = accounts_are ∙ ap (book_after most_lines) (runs q script step w.workers some_ w.count w.have done.answers.items dealt done.order.items done.ran ran r f);
+      }

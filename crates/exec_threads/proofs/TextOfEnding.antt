@@ -1,9 +1,14 @@
 -- The text of an ending needs only what was told of the lines of its script.
 use Rattle.std.proofs.Common.{◌≡◌, ℕ, zero, suc, ◌+◌, ◌-◌, ◌<◌, ◌≤◌, Bool, true, false, Option, Some, None, List, [], ◌∷◌, ◌++◌, length, take, replicate, refl, sym, ap, ◌∙◌, arith}
-use Rattle.std.specs.Prelude.{slice_index_or, slice_set, fold, nat_lt, if◌then◌else◌, codes}
+use Rattle.std.specs.Prelude.{slice_index_or, slice_set, fold, filter_map, nat_lt, if◌then◌else◌, codes}
+use Rattle.exec_script.specs.declared.op.Op.{Op}
 use Rattle.exec_script.specs.declared.told.Told.{Told}
 use Rattle.exec_script.specs.declared.told.Answer.{Answer}
-use Rattle.exec_script.specs.Accounting.{Book, Run, new_book, told_at, told_of, balances_behind, book_behind, book_after}
+use Rattle.exec_script.specs.Accounting.{Book, Run, new_book, told_at, told_of, balances_behind, book_behind, book_after, run_at}
+use Rattle.exec_script.specs.QueueEnds.{IsEndingText}
+use Rattle.exec_threads.specs.declared.run.Done.{Done}
+use Rattle.exec_threads.specs.TasksOfLines.{most_lines, IsScript}
+use Rattle.exec_threads.specs.ScriptDone.{IsDone}
 use Rattle.exec_script.specs.Endings.{line_text, lines_text, order_text, balances_text, ending_text}
 
 -- a book with as much room, and one that has the first lines of it
@@ -55,3 +60,16 @@ text_cut n m runs answers order le few =
     let cut = cut_after n (new_book m) (new_book n) runs (record { balances = refl; told = take_replicate n m None le }) in
     ap (λ (l : List ℕ). l ++ order_text order ++ balances_text 0 (book_after m runs).balances ++ codes "end\n") (sym (lines_cut n (book_after m runs).told 0 answers (omega (arith, few))) ∙ ap (λ (t : List (Option Told)). lines_text t 0 answers) (sym cut.told))
     ∙ ap (λ (b : List ℕ). lines_text (book_after n runs).told 0 answers ++ order_text order ++ balances_text 0 b ++ codes "end\n") (sym cut.balances)
+
+-- what is printed of a script that was done
+pub is_ending : (step : ℕ) (script : List Op) (done : Done) (text : List ℕ) → IsScript script → IsDone step script done → text ≡ ending_text done.accounts done.answers.items done.order.items → IsEndingText step script text
+is_ending step script done text is d told = record {
+  answers = done.answers.items;
+  order = done.order.items;
+  ran = done.ran;
+  answered = d.answered;
+  ordered = d.ordered;
+  few = d.few;
+  stopped = d.stopped;
+  is_text = told ∙ (ap (λ (b : Book). ending_text b done.answers.items done.order.items) d.accounts ∙ text_cut (length script) most_lines (filter_map (run_at script) (take done.ran done.order.items)) done.answers.items done.order.items is.room (let e = d.answered.each in omega (arith, e)));
+}

@@ -8,7 +8,7 @@ ghost use Rattle.exec_threads.specs.ScriptDone.{AreWaiting, HaveWorked, AllEnoug
 
 use crate::bank::Bank;
 use crate::worker::Worker;
-use exec_queue::{ExecEnd, ExecParts, TaskQueue, TaskSubmitter, exec_queue, finish};
+use exec_queue::{ExecEnd, ExecOut, ExecParts, ExecQueue, TaskQueue, TaskSubmitter, exec_queue, finish};
 use exec_script::{Accounts, Answer, ExecScript, Op};
 use sock_io::Out;
 use std::alloc::{AllocError, Global};
@@ -211,6 +211,36 @@ fn do_lines<O: Out + Send, R: Threads + Wait + Sync>(
     })
 }
 
+/// Ends the queue whose submitters did the lines of this script.
+fn end_queue(
+    alloc: Global,
+    queue: ExecQueue<Bank>,
+    worked: Worked<ExecOut<Bank>>,
+    ops: &[Op],
+    step: u16,
+) -> Result<Done, NoMemory>
+    requires plan { IsQueuePlan queue.table.rule.plan }
+    requires seats { queue.table.rule.plan.seats ≡ step }
+    requires some { 1 ≤ step }
+    requires worked { IsWorked queue ops.now step worked }
+    ensures { IfOk result (IsDone step ops.now) }
+{
+    let _ = (ops, step);
+    let Worked {
+        submitters,
+        answers,
+    } = worked;
+    match finish(queue, alloc, submitters) {
+        Ok(ExecEnd { runner, order, ran }) => Ok(Done {
+            accounts: runner.accounts(),
+            answers,
+            order,
+            ran,
+        }),
+        Err(_) => Err(NoMemory),
+    }
+}
+
 /// Runs a script: so many submitters, from 1 to 30, hand in its tasks and stop the queue, each its own lines in their order and on a
 /// thread of its own where one can be started. Line `i` is that of submitter `(i - 1) mod submitters + 1`.
 pub fn run_script<R: Threads + Wait + Sync>(
@@ -226,26 +256,14 @@ pub fn run_script<R: Threads + Wait + Sync>(
 {
     let ops = script.ops();
     let bank = Bank::new(alloc)?;
-    let Ok(
-        ExecParts {
+    match exec_queue(alloc, bank, submitters) {
+        Ok(ExecParts {
             queue,
             submitters: parts,
-        },
-    ) = exec_queue(alloc, bank, submitters)
-    else {
-        return Err(NoMemory);
-    };
-    let Worked {
-        submitters: parts,
-        answers,
-    } = do_lines(rt, alloc, &queue, parts, ops, submitters)?;
-    match finish(queue, alloc, parts) {
-        Ok(ExecEnd { runner, order, ran }) => Ok(Done {
-            accounts: runner.accounts(),
-            answers,
-            order,
-            ran,
-        }),
+        }) => {
+            let worked = do_lines(rt, alloc, &queue, parts, ops, submitters)?;
+            end_queue(alloc, queue, worked, ops, submitters)
+        }
         Err(_) => Err(NoMemory),
     }
 }
