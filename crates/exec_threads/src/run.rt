@@ -8,7 +8,9 @@ ghost use Rattle.exec_threads.specs.ScriptDone.{AreWaiting, HaveWorked, AllEnoug
 
 use crate::bank::Bank;
 use crate::worker::Worker;
-use exec_queue::{ExecEnd, ExecOut, ExecParts, ExecQueue, TaskQueue, TaskSubmitter, exec_queue, finish};
+use exec_queue::{
+    ExecEnd, ExecOut, ExecParts, ExecQueue, TaskQueue, TaskSubmitter, exec_queue, finish,
+};
 use exec_script::{Accounts, Answer, ExecScript, Op};
 use sock_io::Out;
 use std::alloc::{AllocError, Global};
@@ -257,10 +259,12 @@ pub fn run_script<R: Threads + Wait + Sync>(
     let ops = script.ops();
     let bank = Bank::new(alloc)?;
     match exec_queue(alloc, bank, submitters) {
-        Ok(ExecParts {
-            queue,
-            submitters: parts,
-        }) => {
+        Ok(
+            ExecParts {
+                queue,
+                submitters: parts,
+            },
+        ) => {
             let worked = do_lines(rt, alloc, &queue, parts, ops, submitters)?;
             end_queue(alloc, queue, worked, ops, submitters)
         }
