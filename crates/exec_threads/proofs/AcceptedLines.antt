@@ -64,10 +64,10 @@ line_is line (Move a b n) = refl
 
 module _ (step : ℕ) (script : List Op) where
   -- a task is that of an accepted line
-  pub record IsAccepted (place : ℕ) (as : List Answer) (t : queue.Task) : Type 0 where
+  pub record IsAccepted (place : ℕ) (answers : List Answer) (t : queue.Task) : Type 0 where
     pub n : ℕ
     pub change : Change
-    pub answer : slice_get as n ≡ Some Accepted
+    pub answer : slice_get answers n ≡ Some Accepted
     pub asked : slice_get script (place + step * n) ≡ Some (Task change)
     pub task : t ≡ task_on (place + step * n + 1) change
 
@@ -90,11 +90,11 @@ module _ (step : ℕ) (script : List Op) where
   one_step : (place n : ℕ) → (place + step) + step * n ≡ place + step * suc n
   one_step place n = (let e = mul-suc step n in omega (arith, e))
 
-  pub accepted_is : (place : ℕ) (as : List Answer) (m : ℕ) (t : queue.Task) → get_elem? (accepted_from step script place as) m ≡ some t → IsAccepted place as t
+  pub accepted_is : (place : ℕ) (answers : List Answer) (m : ℕ) (t : queue.Task) → get_elem? (accepted_from step script place answers) m ≡ some t → IsAccepted place answers t
   accepted_is place [] m t e = absurd (some-ne-none t (sym e))
-  accepted_is place (a ∷ as) m t e = by_cases (first_or place (slice_get script place) a (accepted_from step script (place + step) as) m t e)
+  accepted_is place (a ∷ answers) m t e = by_cases (first_or place (slice_get script place) a (accepted_from step script (place + step) answers) m t e)
     where
-      by_cases : FirstOr place (slice_get script place) a (accepted_from step script (place + step) as) m t → IsAccepted place (a ∷ as) t
+      by_cases : FirstOr place (slice_get script place) a (accepted_from step script (place + step) answers) m t → IsAccepted place (a ∷ answers) t
       by_cases (inl f) = record {
         n = 0;
         change = f.0;
@@ -102,7 +102,7 @@ module _ (step : ℕ) (script : List Op) where
         asked = ap (λ (p : ℕ). slice_get script p) (sym (no_step place)) ∙ f.1;
         task = f.3 ∙ ap (λ (p : ℕ). task_on (p + 1) f.0) (no_step place);
       }
-      by_cases (inr f) = let w = accepted_is (place + step) as f.0 t f.1 in record {
+      by_cases (inr f) = let w = accepted_is (place + step) answers f.0 t f.1 in record {
         n = suc w.n;
         change = w.change;
         answer = w.answer;
@@ -111,36 +111,38 @@ module _ (step : ℕ) (script : List Op) where
       }
 
   -- and each accepted line has its task
-  pub accepted_there : (place : ℕ) (as : List Answer) (n : ℕ) (change : Change) → slice_get as n ≡ Some Accepted → slice_get script (place + step * n) ≡ Some (Task change) → (m : ℕ) × (get_elem? (accepted_from step script place as) m ≡ some (task_on (place + step * n + 1) change))
+  pub accepted_there : (place : ℕ) (answers : List Answer) (n : ℕ) (change : Change) → slice_get answers n ≡ Some Accepted → slice_get script (place + step * n) ≡ Some (Task change) → (m : ℕ) × (get_elem? (accepted_from step script place answers) m ≡ some (task_on (place + step * n + 1) change))
   accepted_there place [] n change e asked = absurd cc
-  accepted_there place (a ∷ as) zero change e asked =
+  accepted_there place (a ∷ answers) zero change e asked =
       let here : a ≡ Accepted = cc in
-      let op : slice_get script place ≡ Some (Task change) = ap (λ (p : ℕ). slice_get script p) (no_step place) ∙ asked in
-      (0, ap (λ (o : Option Op). get_elem? (accepted_at place o a ++ accepted_from step script (place + step) as) 0) op
-      ∙ (ap (λ (b : Answer). get_elem? (accepted_at place (Some (Task change)) b ++ accepted_from step script (place + step) as) 0) here
-      ∙ ap (λ (p : ℕ). some (task_on (p + 1) change)) (no_step place)))
-  accepted_there place (a ∷ as) (suc n) change e asked =
-      let w = accepted_there (place + step) as n change e (ap (λ (p : ℕ). slice_get script p) (one_step place n) ∙ asked) in
-      let b = behind (accepted_at place (slice_get script place) a) (accepted_from step script (place + step) as) w.0 _ w.1 in
+      let op : slice_get script place ≡ Some (Task change) = ap (λ (p : ℕ). slice_get script p) (no_step place) ∙ asked in (
+        0,
+        ap (λ (o : Option Op). get_elem? (accepted_at place o a ++ accepted_from step script (place + step) answers) 0) op
+            ∙ (ap (λ (b : Answer). get_elem? (accepted_at place (Some (Task change)) b ++ accepted_from step script (place + step) answers) 0) here
+            ∙ ap (λ (p : ℕ). some (task_on (p + 1) change)) (no_step place)),
+      )
+  accepted_there place (a ∷ answers) (suc n) change e asked =
+      let w = accepted_there (place + step) answers n change e (ap (λ (p : ℕ). slice_get script p) (one_step place n) ∙ asked) in
+      let b = behind (accepted_at place (slice_get script place) a) (accepted_from step script (place + step) answers) w.0 _ w.1 in
       (b.0, b.1 ∙ ap (λ (p : ℕ). some (task_on (p + 1) change)) (one_step place n))
 
   -- the line of an accepted task
-  pub line_of_accepted : (place : ℕ) (as : List Answer) (t : queue.Task) (w : IsAccepted place as t) → t.line ≡ place + step * w.n + 1
-  line_of_accepted place as t w = ap (λ (u : queue.Task). u.line) w.task ∙ line_is (place + step * w.n + 1) w.change
+  pub line_of_accepted : (place : ℕ) (answers : List Answer) (t : queue.Task) (w : IsAccepted place answers t) → t.line ≡ place + step * w.n + 1
+  line_of_accepted place answers t w = ap (λ (u : queue.Task). u.line) w.task ∙ line_is (place + step * w.n + 1) w.change
 
   -- the tasks stand in the order of their lines
-  pub lines_rise : 1 ≤ step → (place : ℕ) (as : List Answer) (i j : ℕ) (t u : queue.Task) → get_elem? (accepted_from step script place as) i ≡ some t → get_elem? (accepted_from step script place as) j ≡ some u → i < j → t.line < u.line
+  pub lines_rise : 1 ≤ step → (place : ℕ) (answers : List Answer) (i j : ℕ) (t u : queue.Task) → get_elem? (accepted_from step script place answers) i ≡ some t → get_elem? (accepted_from step script place answers) j ≡ some u → i < j → t.line < u.line
   lines_rise some_ place [] i j t u e f less = absurd (some-ne-none t (sym e))
-  lines_rise some_ place (a ∷ as) i j t u e f less = by_cases (first_or place (slice_get script place) a (accepted_from step script (place + step) as) i t e) (first_or place (slice_get script place) a (accepted_from step script (place + step) as) j u f)
+  lines_rise some_ place (a ∷ answers) i j t u e f less = by_cases (first_or place (slice_get script place) a (accepted_from step script (place + step) answers) i t e) (first_or place (slice_get script place) a (accepted_from step script (place + step) answers) j u f)
     where
-      by_cases : FirstOr place (slice_get script place) a (accepted_from step script (place + step) as) i t → FirstOr place (slice_get script place) a (accepted_from step script (place + step) as) j u → t.line < u.line
+      by_cases : FirstOr place (slice_get script place) a (accepted_from step script (place + step) answers) i t → FirstOr place (slice_get script place) a (accepted_from step script (place + step) answers) j u → t.line < u.line
       by_cases d (inl g) = absurd (let h = g.4 in omega (arith, h, less))
       by_cases (inl d) (inr g) =
-          let w = accepted_is (place + step) as g.0 u g.1 in
-          let l = line_of_accepted (place + step) as u w in
+          let w = accepted_is (place + step) answers g.0 u g.1 in
+          let l = line_of_accepted (place + step) answers u w in
           let k : t.line ≡ place + 1 = ap (λ (v : queue.Task). v.line) d.3 ∙ line_is (place + 1) d.0 in
           omega (arith, l, k, some_)
-      by_cases (inr d) (inr g) = lines_rise some_ (place + step) as d.0 g.0 t u d.1 g.1 (let h = d.2 in let k = g.2 in omega (arith, h, k, less))
+      by_cases (inr d) (inr g) = lines_rise some_ (place + step) answers d.0 g.0 t u d.1 g.1 (let h = d.2 in let k = g.2 in omega (arith, h, k, less))
 
 -- ## Tasks on lines that differ
 
@@ -165,16 +167,16 @@ differ_both (x ∷ xs) ys d e apart = (both_fresh xs d.0, differ_both xs ys d.1 
 -- of these submitters, the first of which has this place
 abbrev pub accepted_of : ℕ → List Op → ℕ → List (List Answer) → List (List queue.Task)
 accepted_of step script place [] = []
-accepted_of step script place (as ∷ more) = accepted_from step script place as ∷ accepted_of step script (place + 1) more
+accepted_of step script place (answers ∷ more) = accepted_from step script place answers ∷ accepted_of step script (place + 1) more
 
 module _ (step : ℕ) (script : List Op) where
-  pub own_tasks : (place : ℕ) (own : List (List Answer)) (k : ℕ) (as : List Answer) → slice_get own k ≡ Some as → get_elem? (accepted_of step script place own) k ≡ some (accepted_from step script (place + k) as)
-  own_tasks place [] k as e = absurd cc
-  own_tasks place (bs ∷ more) zero as e = (let same : bs ≡ as = cc in
-      ap (λ (x : List Answer). some (accepted_from step script place x)) same ∙ ap (λ (p : ℕ). some (accepted_from step script p as)) (let h : place ≡ place + 0 = omega arith in h))
-  own_tasks place (bs ∷ more) (suc k) as e = own_tasks (place + 1) more k as e ∙ ap (λ (p : ℕ). some (accepted_from step script p as)) (let h : (place + 1) + k ≡ place + suc k = omega arith in h)
+  pub own_tasks : (place : ℕ) (own : List (List Answer)) (k : ℕ) (answers : List Answer) → slice_get own k ≡ Some answers → get_elem? (accepted_of step script place own) k ≡ some (accepted_from step script (place + k) answers)
+  own_tasks place [] k answers e = absurd cc
+  own_tasks place (bs ∷ more) zero answers e = (let same : bs ≡ answers = cc in
+      ap (λ (x : List Answer). some (accepted_from step script place x)) same ∙ ap (λ (p : ℕ). some (accepted_from step script p answers)) (let h : place ≡ place + 0 = omega arith in h))
+  own_tasks place (bs ∷ more) (suc k) answers e = own_tasks (place + 1) more k answers e ∙ ap (λ (p : ℕ). some (accepted_from step script p answers)) (let h : (place + 1) + k ≡ place + suc k = omega arith in h)
 
-  pub of_own : (place : ℕ) (own : List (List Answer)) (k : ℕ) (ts : List queue.Task) → get_elem? (accepted_of step script place own) k ≡ some ts → (as : List Answer) × (slice_get own k ≡ Some as) × (accepted_from step script (place + k) as ≡ ts)
+  pub of_own : (place : ℕ) (own : List (List Answer)) (k : ℕ) (ts : List queue.Task) → get_elem? (accepted_of step script place own) k ≡ some ts → (answers : List Answer) × (slice_get own k ≡ Some answers) × (accepted_from step script (place + k) answers ≡ ts)
   of_own place [] k ts e = absurd (some-ne-none ts (sym e))
   of_own place (bs ∷ more) zero ts e = (bs, refl, ap (λ (p : ℕ). accepted_from step script p bs) (let h : place + 0 ≡ place = omega arith in h) ∙ some-injective _ ts e)
   of_own place (bs ∷ more) (suc k) ts e = let w = of_own (place + 1) more k ts e in (w.0, w.1, ap (λ (p : ℕ). accepted_from step script p w.0) (let h : place + suc k ≡ (place + 1) + k = omega arith in h) ∙ w.2)
@@ -182,19 +184,19 @@ module _ (step : ℕ) (script : List Op) where
   -- no two of all of them are on one line
   pub none_twice : 1 ≤ step → (place : ℕ) (own : List (List Answer)) → place + length own ≤ step → NoLineTwice (accepted_of step script place own)
   none_twice some_ place [] low = tt
-  none_twice some_ place (as ∷ more) low =
-      differ_both (accepted_from step script place as) (flat_map (λ (ts : List queue.Task). ts) (accepted_of step script (place + 1) more))
-      (differ_from (accepted_from step script place as) (lines_rise step script some_ place as))
+  none_twice some_ place (answers ∷ more) low =
+      differ_both (accepted_from step script place answers) (flat_map (λ (ts : List queue.Task). ts) (accepted_of step script (place + 1) more))
+      (differ_from (accepted_from step script place answers) (lines_rise step script some_ place answers))
       (none_twice some_ (place + 1) more (omega (arith, low)))
       apart
     where
-      apart : (i j : ℕ) (t u : queue.Task) → get_elem? (accepted_from step script place as) i ≡ some t → get_elem? (flat_map (λ (ts : List queue.Task). ts) (accepted_of step script (place + 1) more)) j ≡ some u → u.line ≢ t.line
+      apart : (i j : ℕ) (t u : queue.Task) → get_elem? (accepted_from step script place answers) i ≡ some t → get_elem? (flat_map (λ (ts : List queue.Task). ts) (accepted_of step script (place + 1) more)) j ≡ some u → u.line ≢ t.line
       apart i j t u at bt same =
-          let w = accepted_is step script place as i t at in
+          let w = accepted_is step script place answers i t at in
           let f = joined_from (accepted_of step script (place + 1) more) j u bt in
           let o = of_own (place + 1) more f.0 f.2 f.3 in
           let v = accepted_is step script ((place + 1) + f.0) o.0 f.1 u (ap (λ (ts : List queue.Task). get_elem? ts f.1) o.2 ∙ f.4) in
-          let l = line_of_accepted step script place as t w in
+          let l = line_of_accepted step script place answers t w in
           let m = line_of_accepted step script ((place + 1) + f.0) o.0 u v in
           let low_ = slice_get_within more f.0 o.0 o.1 in
           let p = same_from_place v.n ((place + 1) + f.0) w.n place step (omega (arith, low, low_)) (omega (arith, low)) (let a = mul_turned v.n in let b = mul_turned w.n in omega (arith, l, m, same, a, b)) in

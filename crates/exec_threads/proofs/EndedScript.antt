@@ -62,10 +62,10 @@ module _ {O : Type 0} {g : Ghosts O} where
   abbrev pub own_of : List (Worker O g) → List (List Answer)
   own_of ws = map (λ (w : Worker O g). w.answers.items) ws
 
-  own_there : (ws : List (Worker O g)) (k : ℕ) (as : List Answer) → slice_get (own_of ws) k ≡ Some as → (w : Worker O g) × (slice_get ws k ≡ Some w) × (w.answers.items ≡ as)
-  own_there [] k as e = absurd cc
-  own_there (w ∷ ws) zero as e = (w, refl, (let h : w.answers.items ≡ as = cc in h))
-  own_there (w ∷ ws) (suc k) as e = own_there ws k as e
+  own_there : (ws : List (Worker O g)) (k : ℕ) (answers : List Answer) → slice_get (own_of ws) k ≡ Some answers → (w : Worker O g) × (slice_get ws k ≡ Some w) × (w.answers.items ≡ answers)
+  own_there [] k answers e = absurd cc
+  own_there (w ∷ ws) zero answers e = (w, refl, (let h : w.answers.items ≡ answers = cc in h))
+  own_there (w ∷ ws) (suc k) answers e = own_there ws k answers e
 
   seat_there : (ws : List (Worker O g)) (k : ℕ) (w : Worker O g) → slice_get ws k ≡ Some w → get_elem? (map (λ (w : Worker O g). w.by) ws) k ≡ some w.by
   seat_there [] k w e = absurd cc
@@ -79,9 +79,10 @@ module _ {O : Type 0} {g : Ghosts O} where
   submitters_are : (q : TaskQueue O g) (script : List Op) (step place : ℕ) (ws : List (Worker O g)) → ((k : ℕ) (w : Worker O g) → slice_get ws k ≡ Some w → HasWorked q script step (place + k + 1) w) → AreSubmitters q (accepted_of step script place (own_of ws)) (map (λ (w : Worker O g). w.by) ws)
   submitters_are q script step place [] have = tt
   submitters_are q script step place (w ∷ ws) have =
-      let h = have 0 w refl in
-      (subst (λ (n : ℕ). IsSubmitter q (accepted_from step script n w.answers.items) w.by) (let e = h.number_is in omega (arith, e)) h.at.is,
-      submitters_are q script step (place + 1) ws (λ k v at. subst (λ (n : ℕ). HasWorked q script step n v) (let e : place + suc k + 1 ≡ (place + 1) + k + 1 = omega arith in e) (have (suc k) v at)))
+      let h = have 0 w refl in (
+        subst (λ (n : ℕ). IsSubmitter q (accepted_from step script n w.answers.items) w.by) (let e = h.number_is in omega (arith, e)) h.at.is,
+        submitters_are q script step (place + 1) ws (λ k v at. subst (λ (n : ℕ). HasWorked q script step n v) (let e : place + suc k + 1 ≡ (place + 1) + k + 1 = omega arith in e) (have (suc k) v at)),
+      )
 
 -- ## All of it
 
@@ -103,11 +104,11 @@ module _ {O : Type 0} {g : Ghosts O} (q : TaskQueue O g) (script : List Op) (ste
     round = record {
       some = some_;
       count = own_long;
-      inside = λ k n as at lt. (let w = own_there ws k as at in subst (λ (p : ℕ). p < length script) (own_number k w.0 w.1 n) ((have k w.0 w.1).at.inside n (subst (λ (l : List Answer). n < length l) (sym w.2) lt)));
-      fit = λ k n as op a at asked is. (let w = own_there ws k as at in (have k w.0 w.1).at.fit n op a (ap (slice_get script) (own_number k w.0 w.1 n) ∙ asked) (ap (λ (l : List Answer). slice_get l n) w.2 ∙ is));
-      behind = λ k n stop as late at is late_ halted. (let w = own_there ws k as at in (have k w.0 w.1).at.behind n stop late (ap (λ (l : List Answer). slice_get l n) w.2 ∙ is) late_ (ap (λ (l : List Answer). slice_get l stop) w.2 ∙ halted));
+      inside = λ k n answers at lt. (let w = own_there ws k answers at in subst (λ (p : ℕ). p < length script) (own_number k w.0 w.1 n) ((have k w.0 w.1).at.inside n (subst (λ (l : List Answer). n < length l) (sym w.2) lt)));
+      fit = λ k n answers op a at asked is. (let w = own_there ws k answers at in (have k w.0 w.1).at.fit n op a (ap (slice_get script) (own_number k w.0 w.1 n) ∙ asked) (ap (λ (l : List Answer). slice_get l n) w.2 ∙ is));
+      behind = λ k n stop answers late at is late_ halted. (let w = own_there ws k answers at in (have k w.0 w.1).at.behind n stop late (ap (λ (l : List Answer). slice_get l n) w.2 ∙ is) late_ (ap (λ (l : List Answer). slice_get l stop) w.2 ∙ halted));
       long = dealt.long;
-      dealt = λ place a as is at. (let w = own_there ws (place % step) as at in
+      dealt = λ place a answers is at. (let w = own_there ws (place % step) answers at in
           let d = dealt.dealt place a w.0 is (ap (λ (n : ℕ). slice_get ws (place % n)) count ∙ w.1) in
           ap (λ (l : List Answer). slice_get l (place / step)) (sym w.2) ∙ (ap (λ (n : ℕ). slice_get w.0.answers.items (place / n)) (sym count) ∙ d));
     }
@@ -136,8 +137,8 @@ module _ {O : Type 0} {g : Ghosts O} (q : TaskQueue O g) (script : List Op) (ste
 
       -- a line that came too late was told so because a stop stopped the queue
       of_late : (late : Answer) → IsLate late → (line : ℕ) → IsAnswered answers line late → SomeStopped answers
-      of_late late is line at = late_is script step (own_of ws) answers round (line - 1) late is at.1 (SomeStopped answers) (λ k m as own_at there.
-          let w = own_there ws k as own_at in
+      of_late late is line at = late_is script step (own_of ws) answers round (line - 1) late is at.1 (SomeStopped answers) (λ k m answers own_at there.
+          let w = own_there ws k answers own_at in
           let told = (have k w.0 w.1).at.told m late (ap (λ (l : List Answer). slice_get l m) w.2 ∙ there) is in
           let one = fit.told k w.0.by (seat_there ws k w.0 w.1) told in
           is_stopped (let s = stops in omega (arith, one, s)))
@@ -146,8 +147,8 @@ module _ {O : Type 0} {g : Ghosts O} (q : TaskQueue O g) (script : List Op) (ste
       is_stopped_once = record {
         once = stopped_once script step (own_of ws) answers round at_most;
         dropped = λ less. dite (dec_lt 0 (stopped_of (own_of ws)))
-          (λ any. is_stopped (omega (arith, any)))
-          (λ none. absurd (let w = r.whole (let s = stops in omega (arith, none, s)) in let e = order_long in omega (arith, less, w, e)));
+            (λ any. is_stopped (omega (arith, any)))
+            (λ none. absurd (let w = r.whole (let s = stops in omega (arith, none, s)) in let e = order_long in omega (arith, less, w, e)));
         refused = of_late Refused tt;
         already = of_late Already tt;
         behind = behind_stop script step (own_of ws) answers round;
@@ -173,7 +174,7 @@ module _ {O : Type 0} {g : Ghosts O} (q : TaskQueue O g) (script : List Op) (ste
       let by_workers = λ (ss : List (TaskSubmitter O g)). Ran tss (stops_of ss) done.order.items done.ran ran in
       let r = subst by_workers w.submitters (runs_ tss tasks_are once) in
       let f = subst (λ (ss : List (TaskSubmitter O g)). AnswersFit ss done.order.items) w.submitters (fits tss tasks_are once) in
-      let dealt = subst (λ (as : List Answer). AreDealt w.workers (length script) as) (sym (ap (λ v. v.items) answers_are)) w.dealt in
+      let dealt = subst (λ (answers : List Answer). AreDealt w.workers (length script) answers) (sym (ap (λ v. v.items) answers_are)) w.dealt in
       record {
         answered = answered q script step w.workers some_ w.count w.have done.answers.items dealt;
         ordered = ordered q script step w.workers some_ w.count w.have done.answers.items dealt done.order.items done.ran ran r f;
