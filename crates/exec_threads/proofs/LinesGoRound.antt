@@ -104,7 +104,7 @@ one_line_stopped (cs ∷ more) (suc k) n (suc l) m answers bs few e f g h = let 
 some_line_stopped : (own : List (List Answer)) → 1 ≤ stopped_of own → (k n : ℕ) × (answers : List Answer) × (slice_get own k ≡ Some answers) × (slice_get answers n ≡ Some Stopped)
 some_line_stopped [] some_ = absurd (omega (arith, some_))
 some_line_stopped (answers ∷ more) some_ = dite (dec_lt 0 (stopped_in answers))
-    (λ any. let w = some_stopped as (omega (arith, any)) in (0, w.0, answers, refl, w.1))
+    (λ any. let w = some_stopped answers (omega (arith, any)) in (0, w.0, answers, refl, w.1))
     (λ none. let w = some_line_stopped more (omega (arith, some_, none)) in (suc w.0, w.1, w.2, w.3, w.4))
 
 -- ## Lines that go round
