@@ -117,7 +117,7 @@ pub record IsRound (script : List Op) (step : ℕ) (own : List (List Answer)) (a
   pub fit : (k n : ℕ) (answers : List Answer) (op : Op) (a : Answer) → slice_get own k ≡ Some answers → slice_get script (k + step * n) ≡ Some op → slice_get answers n ≡ Some a → Answers op a
   pub behind : (k n stop : ℕ) (answers : List Answer) (late : Answer) → slice_get own k ≡ Some answers → slice_get answers n ≡ Some late → IsLate late → slice_get answers stop ≡ Some Stopped → stop < n
   pub long : length answers ≡ length script
-  pub dealt : (place : ℕ) (a : Answer) (answers : List Answer) → slice_get answers place ≡ Some a → slice_get own (place % step) ≡ Some answers → slice_get as (place / step) ≡ Some a
+  pub dealt : (place : ℕ) (a : Answer) (answers : List Answer) → slice_get answers place ≡ Some a → slice_get own (place % step) ≡ Some answers → slice_get answers (place / step) ≡ Some a
 
 module _ (script : List Op) (step : ℕ) (own : List (List Answer)) (answers : List Answer) (round : IsRound script step own answers) where
   -- the line of a place, answers one of its submitter's own
