@@ -47,11 +47,12 @@ module _ {A : Type 0} where
   -- an element of joined lists is one of some list
   pub joined_from : (lists : List (List A)) (k : ℕ) (x : A) → get_elem? (flat_map (λ (l : List A). l) lists) k ≡ some x → (c n : ℕ) × (l : List A) × (get_elem? lists c ≡ some l) × (get_elem? l n ≡ some x)
   joined_from [] k x e = absurd (some-ne-none x (sym e))
-  joined_from (l ∷ lists) k x e = by_cases (either l (flat_map (λ (l : List A). l) lists) k x e)
+  joined_from (l ∷ lists) k x e = by_cases (λ m at. joined_from lists m x at) (either l (flat_map (λ (l : List A). l) lists) k x e)
     where
-      by_cases : ((get_elem? l k ≡ some x) ⊎ ((m : ℕ) × (get_elem? (flat_map (λ (l : List A). l) lists) m ≡ some x) × (k ≡ length l + m))) → (c n : ℕ) × (own : List A) × (get_elem? (l ∷ lists) c ≡ some own) × (get_elem? own n ≡ some x)
-      by_cases (inl f) = (0, k, l, refl, f)
-      by_cases (inr f) = let w = joined_from lists f.0 x f.1 in (suc w.0, w.1, w.2, w.3, w.4)
+      by_cases : ((m : ℕ) → get_elem? (flat_map (λ (l : List A). l) lists) m ≡ some x → (c n : ℕ) × (own : List A) × (get_elem? lists c ≡ some own) × (get_elem? own n ≡ some x))
+          → ((get_elem? l k ≡ some x) ⊎ ((m : ℕ) × (get_elem? (flat_map (λ (l : List A). l) lists) m ≡ some x) × (k ≡ length l + m))) → (c n : ℕ) × (own : List A) × (get_elem? (l ∷ lists) c ≡ some own) × (get_elem? own n ≡ some x)
+      by_cases others (inl f) = (0, k, l, refl, f)
+      by_cases others (inr f) = let w = others f.0 f.1 in (suc w.0, w.1, w.2, w.3, w.4)
 
 -- ## The line of a task
 
@@ -92,17 +93,17 @@ module _ (step : ℕ) (script : List Op) where
 
   pub accepted_is : (place : ℕ) (answers : List Answer) (m : ℕ) (t : queue.Task) → get_elem? (accepted_from step script place answers) m ≡ some t → IsAccepted place answers t
   accepted_is place [] m t e = absurd (some-ne-none t (sym e))
-  accepted_is place (a ∷ answers) m t e = by_cases (first_or place (slice_get script place) a (accepted_from step script (place + step) answers) m t e)
+  accepted_is place (a ∷ answers) m t e = by_cases (λ r at. accepted_is (place + step) answers r t at) (first_or place (slice_get script place) a (accepted_from step script (place + step) answers) m t e)
     where
-      by_cases : FirstOr place (slice_get script place) a (accepted_from step script (place + step) answers) m t → IsAccepted place (a ∷ answers) t
-      by_cases (inl f) = record {
+      by_cases : ((r : ℕ) → get_elem? (accepted_from step script (place + step) answers) r ≡ some t → IsAccepted (place + step) answers t) → FirstOr place (slice_get script place) a (accepted_from step script (place + step) answers) m t → IsAccepted place (a ∷ answers) t
+      by_cases others (inl f) = record {
         n = 0;
         change = f.0;
         answer = ap (λ (b : Answer). Some b) f.2;
         asked = ap (λ (p : ℕ). slice_get script p) (sym (no_step place)) ∙ f.1;
         task = f.3 ∙ ap (λ (p : ℕ). task_on (p + 1) f.0) (no_step place);
       }
-      by_cases (inr f) = let w = accepted_is (place + step) answers f.0 t f.1 in record {
+      by_cases others (inr f) = let w = others f.0 f.1 in record {
         n = suc w.n;
         change = w.change;
         answer = w.answer;
@@ -133,16 +134,17 @@ module _ (step : ℕ) (script : List Op) where
   -- the tasks stand in the order of their lines
   pub lines_rise : 1 ≤ step → (place : ℕ) (answers : List Answer) (i j : ℕ) (t u : queue.Task) → get_elem? (accepted_from step script place answers) i ≡ some t → get_elem? (accepted_from step script place answers) j ≡ some u → i < j → t.line < u.line
   lines_rise some_ place [] i j t u e f less = absurd (some-ne-none t (sym e))
-  lines_rise some_ place (a ∷ answers) i j t u e f less = by_cases (first_or place (slice_get script place) a (accepted_from step script (place + step) answers) i t e) (first_or place (slice_get script place) a (accepted_from step script (place + step) answers) j u f)
+  lines_rise some_ place (a ∷ answers) i j t u e f less = by_cases (λ r q at bt low. lines_rise some_ (place + step) answers r q t u at bt low) (first_or place (slice_get script place) a (accepted_from step script (place + step) answers) i t e) (first_or place (slice_get script place) a (accepted_from step script (place + step) answers) j u f)
     where
-      by_cases : FirstOr place (slice_get script place) a (accepted_from step script (place + step) answers) i t → FirstOr place (slice_get script place) a (accepted_from step script (place + step) answers) j u → t.line < u.line
-      by_cases d (inl g) = absurd (let h = g.4 in omega (arith, h, less))
-      by_cases (inl d) (inr g) =
+      by_cases : ((r q : ℕ) → get_elem? (accepted_from step script (place + step) answers) r ≡ some t → get_elem? (accepted_from step script (place + step) answers) q ≡ some u → r < q → t.line < u.line)
+          → FirstOr place (slice_get script place) a (accepted_from step script (place + step) answers) i t → FirstOr place (slice_get script place) a (accepted_from step script (place + step) answers) j u → t.line < u.line
+      by_cases others d (inl g) = absurd (let h = g.4 in omega (arith, h, less))
+      by_cases others (inl d) (inr g) =
           let w = accepted_is (place + step) answers g.0 u g.1 in
           let l = line_of_accepted (place + step) answers u w in
           let k : t.line ≡ place + 1 = ap (λ (v : queue.Task). v.line) d.3 ∙ line_is (place + 1) d.0 in
           omega (arith, l, k, some_)
-      by_cases (inr d) (inr g) = lines_rise some_ (place + step) answers d.0 g.0 t u d.1 g.1 (let h = d.2 in let k = g.2 in omega (arith, h, k, less))
+      by_cases others (inr d) (inr g) = others d.0 g.0 d.1 g.1 (let h = d.2 in let k = g.2 in omega (arith, h, k, less))
 
 -- ## Tasks on lines that differ
 

@@ -62,10 +62,10 @@ module _ {O : Type 0} {g : Ghosts O} where
   abbrev pub own_of : List (Worker O g) → List (List Answer)
   own_of ws = map (λ (w : Worker O g). w.answers.items) ws
 
-  own_there : (ws : List (Worker O g)) (k : ℕ) (answers : List Answer) → slice_get (own_of ws) k ≡ Some answers → (w : Worker O g) × (slice_get ws k ≡ Some w) × (w.answers.items ≡ answers)
-  own_there [] k answers e = absurd cc
-  own_there (w ∷ ws) zero answers e = (w, refl, (let h : w.answers.items ≡ answers = cc in h))
-  own_there (w ∷ ws) (suc k) answers e = own_there ws k answers e
+  own_there : (ws : List (Worker O g)) (k : ℕ) (theirs : List Answer) → slice_get (own_of ws) k ≡ Some theirs → (w : Worker O g) × (slice_get ws k ≡ Some w) × (w.answers.items ≡ theirs)
+  own_there [] k theirs e = absurd cc
+  own_there (w ∷ ws) zero theirs e = (w, refl, (let h : w.answers.items ≡ theirs = cc in h))
+  own_there (w ∷ ws) (suc k) theirs e = own_there ws k theirs e
 
   seat_there : (ws : List (Worker O g)) (k : ℕ) (w : Worker O g) → slice_get ws k ≡ Some w → get_elem? (map (λ (w : Worker O g). w.by) ws) k ≡ some w.by
   seat_there [] k w e = absurd cc
@@ -102,13 +102,13 @@ module _ {O : Type 0} {g : Ghosts O} (q : TaskQueue O g) (script : List Op) (ste
 
     round : IsRound script step (own_of ws) answers
     round = record {
-      some = some_;
+      steps = some_;
       count = own_long;
-      inside = λ k n answers at lt. (let w = own_there ws k answers at in subst (λ (p : ℕ). p < length script) (own_number k w.0 w.1 n) ((have k w.0 w.1).at.inside n (subst (λ (l : List Answer). n < length l) (sym w.2) lt)));
-      fit = λ k n answers op a at asked is. (let w = own_there ws k answers at in (have k w.0 w.1).at.fit n op a (ap (slice_get script) (own_number k w.0 w.1 n) ∙ asked) (ap (λ (l : List Answer). slice_get l n) w.2 ∙ is));
-      behind = λ k n stop answers late at is late_ halted. (let w = own_there ws k answers at in (have k w.0 w.1).at.behind n stop late (ap (λ (l : List Answer). slice_get l n) w.2 ∙ is) late_ (ap (λ (l : List Answer). slice_get l stop) w.2 ∙ halted));
+      inside = λ k n theirs at lt. (let w = own_there ws k theirs at in subst (λ (p : ℕ). p < length script) (own_number k w.0 w.1 n) ((have k w.0 w.1).at.inside n (subst (λ (l : List Answer). n < length l) (sym w.2) lt)));
+      fit = λ k n theirs op a at asked is. (let w = own_there ws k theirs at in (have k w.0 w.1).at.fit n op a (ap (slice_get script) (own_number k w.0 w.1 n) ∙ asked) (ap (λ (l : List Answer). slice_get l n) w.2 ∙ is));
+      behind = λ k n stop theirs late at is late_ halted. (let w = own_there ws k theirs at in (have k w.0 w.1).at.behind n stop late (ap (λ (l : List Answer). slice_get l n) w.2 ∙ is) late_ (ap (λ (l : List Answer). slice_get l stop) w.2 ∙ halted));
       long = dealt.long;
-      dealt = λ place a answers is at. (let w = own_there ws (place % step) answers at in
+      dealt = λ place a theirs is at. (let w = own_there ws (place % step) theirs at in
           let d = dealt.dealt place a w.0 is (ap (λ (n : ℕ). slice_get ws (place % n)) count ∙ w.1) in
           ap (λ (l : List Answer). slice_get l (place / step)) (sym w.2) ∙ (ap (λ (n : ℕ). slice_get w.0.answers.items (place / n)) (sym count) ∙ d));
     }
@@ -137,8 +137,8 @@ module _ {O : Type 0} {g : Ghosts O} (q : TaskQueue O g) (script : List Op) (ste
 
       -- a line that came too late was told so because a stop stopped the queue
       of_late : (late : Answer) → IsLate late → (line : ℕ) → IsAnswered answers line late → SomeStopped answers
-      of_late late is line at = late_is script step (own_of ws) answers round (line - 1) late is at.1 (SomeStopped answers) (λ k m answers own_at there.
-          let w = own_there ws k answers own_at in
+      of_late late is line at = late_is script step (own_of ws) answers round (line - 1) late is at.1 (SomeStopped answers) (λ k m theirs own_at there.
+          let w = own_there ws k theirs own_at in
           let told = (have k w.0 w.1).at.told m late (ap (λ (l : List Answer). slice_get l m) w.2 ∙ there) is in
           let one = fit.told k w.0.by (seat_there ws k w.0 w.1) told in
           is_stopped (let s = stops in omega (arith, one, s)))
@@ -174,7 +174,7 @@ module _ {O : Type 0} {g : Ghosts O} (q : TaskQueue O g) (script : List Op) (ste
       let by_workers = λ (ss : List (TaskSubmitter O g)). Ran tss (stops_of ss) done.order.items done.ran ran in
       let r = subst by_workers w.submitters (runs_ tss tasks_are once) in
       let f = subst (λ (ss : List (TaskSubmitter O g)). AnswersFit ss done.order.items) w.submitters (fits tss tasks_are once) in
-      let dealt = subst (λ (answers : List Answer). AreDealt w.workers (length script) answers) (sym (ap (λ v. v.items) answers_are)) w.dealt in
+      let dealt = subst (λ (theirs : List Answer). AreDealt w.workers (length script) theirs) (sym (ap (λ v. v.items) answers_are)) w.dealt in
       record {
         answered = answered q script step w.workers some_ w.count w.have done.answers.items dealt;
         ordered = ordered q script step w.workers some_ w.count w.have done.answers.items dealt done.order.items done.ran ran r f;

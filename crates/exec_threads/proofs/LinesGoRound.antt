@@ -31,12 +31,12 @@ module _ {A : Type 0} where
   part_from c [] xs n x e = absurd (some-ne-none x (sym e))
   part_from c (b ∷ bs) [] n x e = absurd (some-ne-none x (sym e))
   part_from c (b ∷ bs) (y ∷ ys) n x e = dite (ℕ_discrete b c)
-      (λ is. here n (sym (ap (λ (l : List A). get_elem? l n) (part_here c b bs y ys is)) ∙ e))
+      (λ is. here (λ m at. part_from c bs ys m x at) n (sym (ap (λ (l : List A). get_elem? l n) (part_here c b bs y ys is)) ∙ e))
       (λ ne. let w = part_from c bs ys n x (sym (ap (λ (l : List A). get_elem? l n) (part_other c b bs y ys ne)) ∙ e) in (suc w.0, w.1))
     where
-      here : (n : ℕ) → get_elem? (y ∷ part_of c bs ys) n ≡ some x → (q : ℕ) × (get_elem? (y ∷ ys) q ≡ some x)
-      here zero e = (0, e)
-      here (suc n) e = let w = part_from c bs ys n x e in (suc w.0, w.1)
+      here : ((m : ℕ) → get_elem? (part_of c bs ys) m ≡ some x → (q : ℕ) × (get_elem? ys q ≡ some x)) → (n : ℕ) → get_elem? (y ∷ part_of c bs ys) n ≡ some x → (q : ℕ) × (get_elem? (y ∷ ys) q ≡ some x)
+      here others zero e = (0, e)
+      here others (suc n) e = let w = others n e in (suc w.0, w.1)
 
 before_here : (a b : ℕ) (bs : List ℕ) (q : ℕ) → b ≡ a → before a (b ∷ bs) (suc q) ≡ suc (before a bs q)
 before_here a b bs q is = ap (λ t. cond t 1 0 + before a bs q) (eq-eqb b a is) ∙ omega arith
@@ -55,56 +55,56 @@ before_rises a (b ∷ bs) (suc q) (suc r) f less = (let rises = before_rises a b
 
 -- ## Stops
 
-stopped_more : (a : Answer) (answers : List Answer) → stopped_in (a ∷ answers) ≡ stopped_in (a ∷ []) + stopped_in answers
-stopped_more Accepted answers = omega arith
-stopped_more Refused answers = omega arith
-stopped_more Already answers = omega arith
-stopped_more Stopped answers = omega arith
+stopped_more : (a : Answer) (theirs : List Answer) → stopped_in (a ∷ theirs) ≡ stopped_in (a ∷ []) + stopped_in theirs
+stopped_more Accepted theirs = omega arith
+stopped_more Refused theirs = omega arith
+stopped_more Already theirs = omega arith
+stopped_more Stopped theirs = omega arith
 
 stopped_here : (a : Answer) → a ≡ Stopped → stopped_in (a ∷ []) ≡ 1
 stopped_here a is = ap (λ (b : Answer). stopped_in (b ∷ [])) is
 
-stopped_at : (answers : List Answer) (n : ℕ) → slice_get answers n ≡ Some Stopped → 1 ≤ stopped_in answers
+stopped_at : (theirs : List Answer) (n : ℕ) → slice_get theirs n ≡ Some Stopped → 1 ≤ stopped_in theirs
 stopped_at [] n e = absurd cc
-stopped_at (a ∷ answers) zero e = (let m = stopped_more a answers in let h = stopped_here a (let is : a ≡ Stopped = cc in is) in omega (arith, m, h))
-stopped_at (a ∷ answers) (suc n) e = (let m = stopped_more a answers in let h = stopped_at answers n e in omega (arith, m, h))
+stopped_at (a ∷ theirs) zero e = (let m = stopped_more a theirs in let h = stopped_here a (let is : a ≡ Stopped = cc in is) in omega (arith, m, h))
+stopped_at (a ∷ theirs) (suc n) e = (let m = stopped_more a theirs in let h = stopped_at theirs n e in omega (arith, m, h))
 
-one_place_stopped : (answers : List Answer) (n m : ℕ) → stopped_in answers ≤ 1 → slice_get answers n ≡ Some Stopped → slice_get answers m ≡ Some Stopped → n ≡ m
+one_place_stopped : (theirs : List Answer) (n m : ℕ) → stopped_in theirs ≤ 1 → slice_get theirs n ≡ Some Stopped → slice_get theirs m ≡ Some Stopped → n ≡ m
 one_place_stopped [] n m few e f = absurd cc
-one_place_stopped (a ∷ answers) zero zero few e f = refl
-one_place_stopped (a ∷ answers) zero (suc m) few e f = absurd (let k = stopped_more a answers in let h = stopped_here a (let is : a ≡ Stopped = cc in is) in let g = stopped_at answers m f in omega (arith, few, k, h, g))
-one_place_stopped (a ∷ answers) (suc n) zero few e f = absurd (let k = stopped_more a answers in let h = stopped_here a (let is : a ≡ Stopped = cc in is) in let g = stopped_at answers n e in omega (arith, few, k, h, g))
-one_place_stopped (a ∷ answers) (suc n) (suc m) few e f = ap suc (one_place_stopped answers n m (let k = stopped_more a answers in omega (arith, few, k)) e f)
+one_place_stopped (a ∷ theirs) zero zero few e f = refl
+one_place_stopped (a ∷ theirs) zero (suc m) few e f = absurd (let k = stopped_more a theirs in let h = stopped_here a (let is : a ≡ Stopped = cc in is) in let g = stopped_at theirs m f in omega (arith, few, k, h, g))
+one_place_stopped (a ∷ theirs) (suc n) zero few e f = absurd (let k = stopped_more a theirs in let h = stopped_here a (let is : a ≡ Stopped = cc in is) in let g = stopped_at theirs n e in omega (arith, few, k, h, g))
+one_place_stopped (a ∷ theirs) (suc n) (suc m) few e f = ap suc (one_place_stopped theirs n m (let k = stopped_more a theirs in omega (arith, few, k)) e f)
 
-some_stopped : (answers : List Answer) → 1 ≤ stopped_in answers → (n : ℕ) × (slice_get answers n ≡ Some Stopped)
+some_stopped : (theirs : List Answer) → 1 ≤ stopped_in theirs → (n : ℕ) × (slice_get theirs n ≡ Some Stopped)
 some_stopped [] some_ = absurd (omega (arith, some_))
-some_stopped (Stopped ∷ answers) some_ = (0, refl)
-some_stopped (Accepted ∷ answers) some_ = let w = some_stopped answers some_ in (suc w.0, w.1)
-some_stopped (Refused ∷ answers) some_ = let w = some_stopped answers some_ in (suc w.0, w.1)
-some_stopped (Already ∷ answers) some_ = let w = some_stopped answers some_ in (suc w.0, w.1)
+some_stopped (Stopped ∷ theirs) some_ = (0, refl)
+some_stopped (Accepted ∷ theirs) some_ = let w = some_stopped theirs some_ in (suc w.0, w.1)
+some_stopped (Refused ∷ theirs) some_ = let w = some_stopped theirs some_ in (suc w.0, w.1)
+some_stopped (Already ∷ theirs) some_ = let w = some_stopped theirs some_ in (suc w.0, w.1)
 
 -- how many lines of all submitters stopped the queue
 abbrev pub stopped_of : List (List Answer) → ℕ
 stopped_of [] = 0
-stopped_of (answers ∷ more) = stopped_in answers + stopped_of more
+stopped_of (theirs ∷ more) = stopped_in theirs + stopped_of more
 
-stopped_by : (own : List (List Answer)) (k n : ℕ) (answers : List Answer) → slice_get own k ≡ Some answers → slice_get answers n ≡ Some Stopped → 1 ≤ stopped_of own
-stopped_by [] k n answers e f = absurd cc
-stopped_by (bs ∷ more) zero n answers e f = (let h = stopped_at bs n (subst (λ (x : List Answer). slice_get x n ≡ Some Stopped) (sym (let same : bs ≡ answers = cc in same)) f) in omega (arith, h))
-stopped_by (bs ∷ more) (suc k) n answers e f = (let h = stopped_by more k n answers e f in omega (arith, h))
+stopped_by : (own : List (List Answer)) (k n : ℕ) (theirs : List Answer) → slice_get own k ≡ Some theirs → slice_get theirs n ≡ Some Stopped → 1 ≤ stopped_of own
+stopped_by [] k n theirs e f = absurd cc
+stopped_by (bs ∷ more) zero n theirs e f = (let h = stopped_at bs n (subst (λ (x : List Answer). slice_get x n ≡ Some Stopped) (sym (let same : bs ≡ theirs = cc in same)) f) in omega (arith, h))
+stopped_by (bs ∷ more) (suc k) n theirs e f = (let h = stopped_by more k n theirs e f in omega (arith, h))
 
-one_line_stopped : (own : List (List Answer)) (k n l m : ℕ) (answers bs : List Answer) → stopped_of own ≤ 1 → slice_get own k ≡ Some answers → slice_get answers n ≡ Some Stopped → slice_get own l ≡ Some bs → slice_get bs m ≡ Some Stopped → (k ≡ l) × (n ≡ m)
-one_line_stopped [] k n l m answers bs few e f g h = absurd cc
-one_line_stopped (cs ∷ more) zero n zero m answers bs few e f g h =
-    (refl, one_place_stopped cs n m (omega (arith, few)) (subst (λ (x : List Answer). slice_get x n ≡ Some Stopped) (sym (let same : cs ≡ answers = cc in same)) f) (subst (λ (x : List Answer). slice_get x m ≡ Some Stopped) (sym (let same : cs ≡ bs = cc in same)) h))
-one_line_stopped (cs ∷ more) zero n (suc l) m answers bs few e f g h = absurd (let x = stopped_at cs n (subst (λ (x : List Answer). slice_get x n ≡ Some Stopped) (sym (let same : cs ≡ answers = cc in same)) f) in let y = stopped_by more l m bs g h in omega (arith, few, x, y))
-one_line_stopped (cs ∷ more) (suc k) n zero m answers bs few e f g h = absurd (let x = stopped_at cs m (subst (λ (x : List Answer). slice_get x m ≡ Some Stopped) (sym (let same : cs ≡ bs = cc in same)) h) in let y = stopped_by more k n answers e f in omega (arith, few, x, y))
-one_line_stopped (cs ∷ more) (suc k) n (suc l) m answers bs few e f g h = let w = one_line_stopped more k n l m answers bs (omega (arith, few)) e f g h in (ap suc w.0, w.1)
+one_line_stopped : (own : List (List Answer)) (k n l m : ℕ) (theirs bs : List Answer) → stopped_of own ≤ 1 → slice_get own k ≡ Some theirs → slice_get theirs n ≡ Some Stopped → slice_get own l ≡ Some bs → slice_get bs m ≡ Some Stopped → (k ≡ l) × (n ≡ m)
+one_line_stopped [] k n l m theirs bs few e f g h = absurd cc
+one_line_stopped (cs ∷ more) zero n zero m theirs bs few e f g h =
+    (refl, one_place_stopped cs n m (omega (arith, few)) (subst (λ (x : List Answer). slice_get x n ≡ Some Stopped) (sym (let same : cs ≡ theirs = cc in same)) f) (subst (λ (x : List Answer). slice_get x m ≡ Some Stopped) (sym (let same : cs ≡ bs = cc in same)) h))
+one_line_stopped (cs ∷ more) zero n (suc l) m theirs bs few e f g h = absurd (let x = stopped_at cs n (subst (λ (x : List Answer). slice_get x n ≡ Some Stopped) (sym (let same : cs ≡ theirs = cc in same)) f) in let y = stopped_by more l m bs g h in omega (arith, few, x, y))
+one_line_stopped (cs ∷ more) (suc k) n zero m theirs bs few e f g h = absurd (let x = stopped_at cs m (subst (λ (x : List Answer). slice_get x m ≡ Some Stopped) (sym (let same : cs ≡ bs = cc in same)) h) in let y = stopped_by more k n theirs e f in omega (arith, few, x, y))
+one_line_stopped (cs ∷ more) (suc k) n (suc l) m theirs bs few e f g h = let w = one_line_stopped more k n l m theirs bs (omega (arith, few)) e f g h in (ap suc w.0, w.1)
 
-some_line_stopped : (own : List (List Answer)) → 1 ≤ stopped_of own → (k n : ℕ) × (answers : List Answer) × (slice_get own k ≡ Some answers) × (slice_get answers n ≡ Some Stopped)
+some_line_stopped : (own : List (List Answer)) → 1 ≤ stopped_of own → (k n : ℕ) × (theirs : List Answer) × (slice_get own k ≡ Some theirs) × (slice_get theirs n ≡ Some Stopped)
 some_line_stopped [] some_ = absurd (omega (arith, some_))
-some_line_stopped (answers ∷ more) some_ = dite (dec_lt 0 (stopped_in answers))
-    (λ any. let w = some_stopped answers (omega (arith, any)) in (0, w.0, answers, refl, w.1))
+some_line_stopped (theirs ∷ more) some_ = dite (dec_lt 0 (stopped_in theirs))
+    (λ any. let w = some_stopped theirs (omega (arith, any)) in (0, w.0, theirs, refl, w.1))
     (λ none. let w = some_line_stopped more (omega (arith, some_, none)) in (suc w.0, w.1, w.2, w.3, w.4))
 
 -- ## Lines that go round
@@ -113,14 +113,14 @@ some_line_stopped (answers ∷ more) some_ = dite (dec_lt 0 (stopped_in answers)
 pub record IsRound (script : List Op) (step : ℕ) (own : List (List Answer)) (answers : List Answer) : Type 0 where
   pub steps : 1 ≤ step
   pub count : length own ≡ step
-  pub inside : (k n : ℕ) (answers : List Answer) → slice_get own k ≡ Some answers → n < length answers → k + step * n < length script
-  pub fit : (k n : ℕ) (answers : List Answer) (op : Op) (a : Answer) → slice_get own k ≡ Some answers → slice_get script (k + step * n) ≡ Some op → slice_get answers n ≡ Some a → Answers op a
-  pub behind : (k n stop : ℕ) (answers : List Answer) (late : Answer) → slice_get own k ≡ Some answers → slice_get answers n ≡ Some late → IsLate late → slice_get answers stop ≡ Some Stopped → stop < n
+  pub inside : (k n : ℕ) (theirs : List Answer) → slice_get own k ≡ Some theirs → n < length theirs → k + step * n < length script
+  pub fit : (k n : ℕ) (theirs : List Answer) (op : Op) (a : Answer) → slice_get own k ≡ Some theirs → slice_get script (k + step * n) ≡ Some op → slice_get theirs n ≡ Some a → Answers op a
+  pub behind : (k n stop : ℕ) (theirs : List Answer) (late : Answer) → slice_get own k ≡ Some theirs → slice_get theirs n ≡ Some late → IsLate late → slice_get theirs stop ≡ Some Stopped → stop < n
   pub long : length answers ≡ length script
-  pub dealt : (place : ℕ) (a : Answer) (answers : List Answer) → slice_get answers place ≡ Some a → slice_get own (place % step) ≡ Some answers → slice_get answers (place / step) ≡ Some a
+  pub dealt : (place : ℕ) (a : Answer) (theirs : List Answer) → slice_get answers place ≡ Some a → slice_get own (place % step) ≡ Some theirs → slice_get theirs (place / step) ≡ Some a
 
 module _ (script : List Op) (step : ℕ) (own : List (List Answer)) (answers : List Answer) (round : IsRound script step own answers) where
-  -- the line of a place, answers one of its submitter's own
+  -- the line of a place, as one of its submitter's own
   record OwnLine (place : ℕ) (a : Answer) : Type 0 where
     pub list : List Answer
     pub own_at : slice_get own (place % step) ≡ Some list
@@ -131,25 +131,25 @@ module _ (script : List Op) (step : ℕ) (own : List (List Answer)) (answers : L
 
   own_line : (place : ℕ) (a : Answer) → slice_get answers place ≡ Some a → OwnLine place a
   own_line place a at =
-      let there = slice_get-get_or own (place % step) [] (let m = mod-lt place (let s = round.steps in omega (arith, s)) in let c = round.count in omega (arith, m, c)) in
+      let there = slice_get-get_or own (place % step) [] (let m = mod-lt place {m = step} (let s = round.steps in omega (arith, s)) in let c = round.count in omega (arith, m, c)) in
       record { list = slice_index_or own (place % step) []; own_at = there; answer = round.dealt place a _ at there }
 
-  -- a submitter's own line, answers one of the script
-  whole_line : (k n : ℕ) (answers : List Answer) (a : Answer) → slice_get own k ≡ Some answers → slice_get answers n ≡ Some a → slice_get answers (k + step * n) ≡ Some a
-  whole_line k n answers a own_at at =
+  -- a submitter's own line, as one of the script
+  whole_line : (k n : ℕ) (theirs : List Answer) (a : Answer) → slice_get own k ≡ Some theirs → slice_get theirs n ≡ Some a → slice_get answers (k + step * n) ≡ Some a
+  whole_line k n theirs a own_at at =
       let place = k + step * n in
-      let low : place < length answers = (let h = round.inside k n answers own_at (slice_get_within answers n a at) in let l = round.long in omega (arith, h, l)) in
+      let low : place < length answers = (let h = round.inside k n theirs own_at (slice_get_within theirs n a at) in let l = round.long in omega (arith, h, l)) in
       let there : slice_get answers place ≡ Some (slice_index_or answers place a) = slice_get-get_or answers place a low in
-      let k_low : k < step = (let h = slice_get_within own k answers own_at in let c = round.count in omega (arith, h, c)) in
+      let k_low : k < step = (let h = slice_get_within own k theirs own_at in let c = round.count in omega (arith, h, c)) in
       let turned : n * step + k ≡ place = (let m = mul_comm step n in omega (arith, m)) in
       let row : place / step ≡ n = ap (λ (p : ℕ). p / step) (sym turned) ∙ div-mul-add n step k k_low in
       let column : place % step ≡ k = ap (λ (p : ℕ). p % step) (sym turned) ∙ mod-mul-add n step k k_low in
-      let dealt = round.dealt place (slice_index_or answers place a) answers there (ap (slice_get own) column ∙ own_at) in
-      there ∙ (sym dealt ∙ (ap (slice_get answers) row ∙ at))
+      let dealt = round.dealt place (slice_index_or answers place a) theirs there (ap (slice_get own) column ∙ own_at) in
+      there ∙ (sym dealt ∙ (ap (slice_get theirs) row ∙ at))
 
-  submitter_is : (k n : ℕ) (answers : List Answer) → slice_get own k ≡ Some answers → submitter_of step (k + step * n + 1) ≡ k
-  submitter_is k n answers own_at =
-      let k_low : k < step = (let h = slice_get_within own k answers own_at in let c = round.count in omega (arith, h, c)) in
+  submitter_is : (k n : ℕ) (theirs : List Answer) → slice_get own k ≡ Some theirs → submitter_of step (k + step * n + 1) ≡ k
+  submitter_is k n theirs own_at =
+      let k_low : k < step = (let h = slice_get_within own k theirs own_at in let c = round.count in omega (arith, h, c)) in
       ap (λ (p : ℕ). p % step) (let m = mul_comm step n in let h : (k + step * n + 1) - 1 ≡ n * step + k = omega (arith, m) in h) ∙ mod-mul-add n step k k_low
 
   -- ## Answers
@@ -180,7 +180,7 @@ module _ (script : List Op) (step : ℕ) (own : List (List Answer)) (answers : L
   pub one_stopped : 1 ≤ stopped_of own → SomeStopped answers
   one_stopped some_ = let w = some_line_stopped own some_ in (w.0 + step * w.1 + 1, (omega arith, subst (λ (p : ℕ). slice_get answers p ≡ Some Stopped) (let h : w.0 + step * w.1 ≡ (w.0 + step * w.1 + 1) - 1 = omega arith in h) (whole_line w.0 w.1 w.2 Stopped w.3 w.4)))
 
-  late_is : (place : ℕ) (late : Answer) → IsLate late → slice_get answers place ≡ Some late → (P : Type 0) → ((k n : ℕ) (answers : List Answer) → slice_get own k ≡ Some answers → slice_get answers n ≡ Some late → P) → P
+  pub late_is : (place : ℕ) (late : Answer) → IsLate late → slice_get answers place ≡ Some late → (P : Type 0) → ((k n : ℕ) (theirs : List Answer) → slice_get own k ≡ Some theirs → slice_get theirs n ≡ Some late → P) → P
   late_is place late is at P then = let o = own_line place late at in then (place % step) (place / step) o.list o.own_at o.answer
 
   pub behind_stop : (line stop : ℕ) → IsAnswered answers line Refused ⊎ IsAnswered answers line Already → IsAnswered answers stop Stopped → submitter_of step line ≡ submitter_of step stop → stop < line
@@ -206,7 +206,7 @@ module _ (script : List Op) (step : ℕ) (own : List (List Answer)) (answers : L
   -- ## The order
 
   module _ (tasks : List queue.Task) (merged : AreMerged (accepted_of step script 0 own) tasks) where
-    -- a task of the order, answers that of a submitter's line
+    -- a task of the order, as that of a submitter's line
     record OwnTask (q : ℕ) (t : queue.Task) : Type 0 where
       pub inlist : InList (accepted_of step script 0 own) tasks merged q t
       pub list : List Answer
@@ -263,7 +263,7 @@ module _ (script : List Op) (step : ℕ) (own : List (List Answer)) (answers : L
           let p = own_task r u.0 u.1 in
           let one : o.inlist.c ≡ p.inlist.c = sym (submitter_of_task q t.0 o) ∙ (ap (submitter_of step) t.2 ∙ (same ∙ (ap (submitter_of step) (sym u.2) ∙ submitter_of_task r u.0 p))) in
           let lists : o.list ≡ p.list = (let e : Some o.list ≡ Some p.list = sym o.own_at ∙ (ap (slice_get own) one ∙ p.own_at) in cc) in
-          let there : get_elem? (accepted_from step script o.inlist.c o.list) (before o.inlist.c merged.by r) ≡ some u.0 = ap (λ (c : ℕ). get_elem? (accepted_from step script c o.list) (before c merged.by r)) one ∙ (ap (λ (answers : List Answer). get_elem? (accepted_from step script p.inlist.c answers) (before p.inlist.c merged.by r)) lists ∙ p.there) in
+          let there : get_elem? (accepted_from step script o.inlist.c o.list) (before o.inlist.c merged.by r) ≡ some u.0 = ap (λ (c : ℕ). get_elem? (accepted_from step script c o.list) (before c merged.by r)) one ∙ (ap (λ (theirs : List Answer). get_elem? (accepted_from step script p.inlist.c theirs) (before p.inlist.c merged.by r)) lists ∙ p.there) in
           let rise = lines_rise step script round.steps o.inlist.c o.list (before o.inlist.c merged.by q) (before o.inlist.c merged.by r) t.0 u.0 o.there there (before_rises o.inlist.c merged.by q r o.inlist.by_c less) in
           (let e = t.2 in let f = u.2 in omega (arith, rise, e, f))
 

@@ -227,7 +227,8 @@ fn end_queue(
     requires worked { IsWorked queue ops.now step worked }
     ensures { IfOk result (IsDone step ops.now) }
 {
-    let _ = (ops, step);
+    let _ = ops;
+    let _ = step;
     let Worked {
         submitters,
         answers,
