@@ -1,0 +1,6 @@
+mod LinesOfSubmitter
+mod AllSubmitters
+mod AcceptedLines
+mod LinesGoRound
+mod EndedScript
+mod TextOfEnding

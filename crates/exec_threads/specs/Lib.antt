@@ -1,0 +1,3 @@
+pub mod TasksOfLines
+pub mod LinesDone
+pub mod ScriptDone
